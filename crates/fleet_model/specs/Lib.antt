@@ -1,0 +1,13 @@
+pub mod Lists
+pub mod Sites
+pub mod Replays
+pub mod Plans
+pub mod Cycles
+pub mod Routes
+pub mod Deferral
+pub mod States
+pub mod Calls
+pub mod Journals
+pub mod Good
+pub mod Sound
+pub mod Examples

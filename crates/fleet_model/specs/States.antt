@@ -1,0 +1,61 @@
+-- The states of a fleet: what is planned, pending and owed, and who is deferred on whom.
+use Rattle.std.specs.Prelude.{◌≡◌, ℕ, ◌+◌, ◌-◌, Bool, not, ◌&&◌, ◌==◌, nat_lt, nat_le, List, [], ◌∷◌, ◌++◌, map, length, position, count_by, find, Option, Some, None, Result, Ok, Err, slice_get, slice_set, slice_index_or}
+use Rattle.std.specs.List.{filter, list_any}
+use Rattle.std.specs.Option.{is_some, is_none, option_map, option_and_then, unwrap_or, option_to_list}
+use Rattle.fleet_base.specs.Lists.{robots_of}
+use Rattle.fleet_base.specs.declared.answers.Block.{Block}
+use Rattle.fleet_base.specs.declared.numbers.CellNo.{CellNo}
+use Rattle.fleet_model.specs.Lists.{when, first_some, numbers_below}
+use Rattle.fleet_model.specs.Sites.{Site, cell_count, is_linked, needs, steps}
+use Rattle.fleet_model.specs.Plans.{Fleet, unfinished, own, awaited, latest, cell_of, end_of, merged, removable_tail, withdrawn}
+use Rattle.fleet_model.specs.Cycles.{cycle_through}
+use Rattle.fleet_model.specs.Deferral.{ends, is_kept_by, least_blocker, is_shut_to}
+
+-- the fleet's plan, the route that each robot has pending, the cap, and the number of accepted calls
+pub record State : Type 0 where
+  pub fleet : Fleet
+  pub pending : List (Option (List CellNo))
+  pub cap : ℕ
+  pub count : ℕ
+
+-- the state that a run opens with: where the robots stand, the routes that they have pending, and the next number
+abbrev pub opening_state : Site → List CellNo → List (Option (List CellNo)) → ℕ → ℕ → State
+opening_state site starts pending next cap =
+    record { fleet = record { site = site; starts = starts; first = next; plan = []; finished = []; next = next }; pending = pending; cap = cap; count = 0 }
+
+-- the opening state of these starts: no route is pending, and the next number is 1
+abbrev pub start_state : Site → List CellNo → ℕ → State
+start_state site starts cap = opening_state site starts (map (λ a. None) starts) 1 cap
+
+abbrev pub is_robot : State → ℕ → Bool
+is_robot s r = nat_lt r (length s.fleet.starts)
+
+-- the pending route of robot r
+abbrev pub pending_of : State → ℕ → Option (List CellNo)
+pending_of s r = slice_index_or s.pending r None
+
+-- the pending route, with no cell where there is none
+abbrev pub pending_route : State → ℕ → List CellNo
+pending_route s r = unwrap_or (pending_of s r) []
+
+-- what is owed: the unfinished events and the pending routes
+abbrev pub owed : State → ℕ
+owed s = length (unfinished s.fleet) + count_by is_some s.pending
+
+-- an outcome by which entries and what is owed grow by so much would go above the cap
+abbrev pub is_full : State → ℕ → Bool
+is_full s growth = nat_lt s.cap (s.count + owed s + growth)
+
+-- robot r has a pending route, and robot q is in a blocker of it
+abbrev pub is_deferred_on : State → ℕ → ℕ → Bool
+is_deferred_on s r q =
+    not (q == r) && list_any (λ c. is_kept_by s.fleet.site c (slice_get (ends s.fleet) q)) (needs s.fleet.site (pending_route s r))
+
+-- the cycle of deferrals through robot r; the empty list where there is none
+abbrev pub cycle_of : State → ℕ → List ℕ
+cycle_of s r = cycle_through (length s.fleet.starts) (is_deferred_on s) r
+
+-- the least blocker of a route of robot r, with the cycle through the robot
+abbrev pub block_of : State → ℕ → List CellNo → Option Block
+block_of s r route =
+    option_map (λ b. record { claim = b.0; by = record { 0 = b.1 }; cycle = robots_of (cycle_of s r) }) (least_blocker s.fleet.site (ends s.fleet) r (needs s.fleet.site route))
