@@ -1,5 +1,6 @@
 -- What every state keeps.
 use Rattle.std.specs.Prelude.{◌≡◌, ◌≢◌, ℕ, ◌+◌, ◌*◌, ◌<◌, ◌≤◌, true, ◌⊎◌, List, [], ◌∷◌, Option, Some, length, slice_get, count_by}
+use Rattle.std.specs.List.{filter}
 use Rattle.std.specs.Option.{is_some}
 use Rattle.fleet_base.specs.declared.numbers.CellNo.{CellNo}
 use Rattle.fleet_base.specs.declared.numbers.ClaimNo.{ClaimNo}
@@ -55,4 +56,4 @@ pub record IsOpening (site : Site) (starts : List CellNo) (pending : List (Optio
   pub apart : (r q : ℕ) (c d : ClaimNo) → r ≢ q → in_conflict site c d ≡ true → (opening site starts r).holds c ≡ true → (opening site starts q).holds d ≡ true → ⊥
   pub places : length pending ≡ length starts
   pub routes : (r : ℕ) (route : List CellNo) → pending_of (opening_state site starts pending next cap) r ≡ Some route → IsRoute (opening_state site starts pending next cap).fleet r route
-  pub room : count_by is_some pending ≤ cap
+  pub room : length (filter is_some pending) ≤ cap

@@ -1,7 +1,7 @@
 -- What a journal keeps at each of its places.
 use Rattle.std.specs.Prelude.{◌≡◌, ◌≢◌, ◌↔◌, ℕ, Bool, true, false, ◌⊎◌, List, [], ◌∷◌, ◌++◌}
 use Rattle.fleet_base.specs.declared.entries.Act.{Act}
-use Rattle.fleet_base.specs.declared.entries.Act.TheVariants.{Merged, Deferred, Retried, Canceled, Withdrawn, Replanned, Reported}
+use Rattle.fleet_base.specs.declared.entries.Act.TheVariants.{Merged, Deferred, Retried, Canceled, Withdrawn, Replanned}
 use Rattle.fleet_base.specs.declared.entries.Entry.{Entry}
 use Rattle.fleet_base.specs.declared.numbers.CellNo.{CellNo}
 use Rattle.fleet_base.specs.declared.numbers.Event.{Event}
@@ -22,32 +22,21 @@ IsCycle s (r ∷ rs) = is_cycle (is_deferred_on s) r (r ∷ rs) ≡ true
 -- the act is a merge
 abbrev pub IsMerge : Act → Type 0
 IsMerge (Merged route first) = Unit {0}
-IsMerge (Deferred route cycle) = ⊥
 IsMerge (Retried first) = Unit {0}
-IsMerge Canceled = ⊥
-IsMerge (Withdrawn removed end) = ⊥
 IsMerge (Replanned route first) = Unit {0}
-IsMerge (Reported event) = ⊥
+IsMerge _ = ⊥
 
 -- the act may end a cycle that its robot is in
 abbrev pub IsChange : Act → Type 0
-IsChange (Merged route first) = ⊥
-IsChange (Deferred route cycle) = ⊥
-IsChange (Retried first) = ⊥
 IsChange Canceled = Unit {0}
 IsChange (Withdrawn removed end) = Unit {0}
 IsChange (Replanned route first) = Unit {0}
-IsChange (Reported event) = ⊥
+IsChange _ = ⊥
 
 -- the act is a deferral
 abbrev pub IsDeferral : Act → Type 0
-IsDeferral (Merged route first) = ⊥
 IsDeferral (Deferred route cycle) = Unit {0}
-IsDeferral (Retried first) = ⊥
-IsDeferral Canceled = ⊥
-IsDeferral (Withdrawn removed end) = ⊥
-IsDeferral (Replanned route first) = ⊥
-IsDeferral (Reported event) = ⊥
+IsDeferral _ = ⊥
 
 -- no member cancels, withdraws or replans
 abbrev pub IsTrueTo : List ℕ → List Entry → Type 0
