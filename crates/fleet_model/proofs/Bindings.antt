@@ -204,4 +204,4 @@ cycle_stood s members (entry ∷ entries) is_site good h cycle none =
     let g = turn_good s entry is_site good h.0 in
     let later : IsCycle (turn_at s entry).after members = cycle_stood (turn_at s entry).after members entries g.1 g.0 h.1 cycle (λ other i j. none other (there i) j) in
     let here_after : IsCycle (changed s t a.change) members = subst (λ n. IsCycle n members) a.after_is later in
-    cycle_stands (changed s t a.change) s members (stood_apart s members t a.change (reports_or_defers s t members a.change entry.act a.tells (cycle_closed (changed s t a.change) members here_after) (none entry (here refl)))) here_after
+    cycle_stands (changed s t a.change) s members (stood_apart s members t a.change (λ i. reports_or_defers s t members a.change entry.act a.tells (cycle_closed (changed s t a.change) members here_after) (none entry (here refl) i) i)) here_after
