@@ -34,11 +34,12 @@ use Rattle.fleet_model.specs.Deferral.{ends, least_blocker}
 use Rattle.fleet_model.specs.States.{State, is_robot, pending_of, pending_route, owed, is_full, cycle_of, block_of}
 use Rattle.fleet_model.specs.Calls.{Step, unless, unless_refused, propose_refusals, retry_refusals, cancel_refusals, withdraw_refusals, replan_refusals, report_refusals, accepted, moved, with_route, deferring, first_of, first_unlinked, unlinked_at, begin_at, propose_growth, propose_outcome, propose, detour_of, next_event, waits_on, is_number, reported, span_of, retry, cancel, withdraw, replan, report, look_of, Call, Propose, Retry, Cancel, Withdraw, Replan, Report, LookAt, Turn, turn, has_cell}
 use Rattle.fleet_model.specs.Good.{IsAscending, IsGoodPlan, IsGood}
-use Rattle.fleet_model.proofs.Lists.{In-nil, In_either, In-filter, In_unfilter}
+use Rattle.fleet_model.proofs.Lists.{In-nil, In_either, In-append_right, In-filter, In_unfilter}
 use Rattle.fleet_model.proofs.Numbers.{from_one, IsAscending-own, IsAscending-filter, own_In, In_own, low_bound, done_in, done_right, done_parts}
 use Rattle.fleet_model.proofs.Counts.{emptied_le, emptied_less, filled_le, filter_le, filter_less, filter_misses}
 use Rattle.fleet_model.proofs.Leasts.{least_none}
-use Rattle.fleet_model.proofs.Assumed.{detour_route, detour_free, tail_event}
+use Rattle.fleet_model.proofs.Detours.{detour_route, detour_free}
+use Rattle.fleet_model.proofs.Tails.{tail_is}
 use Rattle.fleet_model.proofs.Blockers.{none_unblocked, found_blocks}
 use Rattle.fleet_model.proofs.Deferrals.{pending_is}
 use Rattle.fleet_model.proofs.Further.{filter_swap}
@@ -207,13 +208,14 @@ done_fewer m e ready =
     (not_from_false (is_done m.finished e) ready.undone)
 
 -- a withdrawal leaves fewer unfinished events
-cut_fewer : (m : Fleet) (r : ℕ) (e : Event) → In e (removable_tail m r) → length (unfinished (withdrawn m (removable_tail m r))) + 1 ≤ length (unfinished m)
-cut_fewer m r e i =
+cut_fewer : (m : Fleet) (r : ℕ) → IsGoodPlan m → (e : Event) → In e (removable_tail m r) → length (unfinished (withdrawn m (removable_tail m r))) + 1 ≤ length (unfinished m)
+cut_fewer m r good e i =
     let kept : Event → Bool = λ f. not (is_done (removable_tail m r) f) in
     let undone : Event → Bool = λ f. not (is_done m.finished f) in
-    let known = tail_event m r e i in
+    let is = tail_is m r good in
+    let planned = own_In r m.plan (subst (λ es. In e es) (sym is.splits) (In-append_right is.front (removable_tail m r) i)) in
     rw (filter_swap undone kept m.plan)
-    (filter_misses kept (unfinished m) e (In-filter undone m.plan known.0 (not_from_false (is_done m.finished e) known.2)) (not_from_true (is_done (removable_tail m r) e) (done_in (removable_tail m r) i)))
+    (filter_misses kept (unfinished m) e (In-filter undone m.plan planned.0 (not_from_false (is_done m.finished e) (is.undone e i))) (not_from_true (is_done (removable_tail m r) e) (done_in (removable_tail m r) i)))
 
 -- room for a route whose pending place is emptied
 unfinished-merged : (m : Fleet) (r : ℕ) (route : List CellNo) → length (unfinished (merged m r route)) ≤ length (unfinished m) + length (steps m.site route)
@@ -329,7 +331,7 @@ accepts_replan s r goal entry is_site h = record {
   can = (
     start_of s.fleet.starts r (ltb-true r (length s.fleet.starts) (not-false (is_robot s r) (when_none (not (is_robot s r)) replan_refused.UnknownRobot is.none.0))),
     subst (λ x. IsRoute s.fleet r x) (sym route_is) (detour_route s.fleet r goal found.0 is_site (when_none (goal (end_of s.fleet r)) replan_refused.AtGoal is.none.1.1.0) found.1),
-    subst (λ x. IsClear s.fleet r x) (sym route_is) (detour_free s.fleet r goal found.0 is_site found.1),
+    subst (λ x. IsClear s.fleet r x) (sym route_is) (detour_free s.fleet r goal is_site found.0 found.1),
   );
   room = joined_room s r route pends.0 pends.1 (when_none (is_full s (length (steps s.fleet.site route))) replan_refused.Full is.none.1.1.1.1.0);
   after_is = ap (λ x. x.after) is.is;
@@ -365,7 +367,7 @@ accepts_withdraw s r entry good h = record {
   change = Cut;
   can = length_In tail some.0 some.1;
   room = (
-      let fewer : length (unfinished fleet) + 1 ≤ length (unfinished s.fleet) = cut_fewer s.fleet r some.0 some.1 in
+      let fewer : length (unfinished fleet) + 1 ≤ length (unfinished s.fleet) = cut_fewer s.fleet r good.plan some.0 some.1 in
       let pend = emptied_le s.pending r in
       let fits = good.room in
       omega arith);

@@ -26,10 +26,12 @@ pub after_kinds-append : (s : Spot) (js ks : List Kind) → after_kinds s (js ++
 after_kinds-append s [] ks = refl
 after_kinds-append s (j ∷ js) ks = after_kinds-append (after_kind j s) js ks
 
+-- of things that a robot can do one after the other it can do each in its place
 pub CanDoAll_at : (site : Site) (s : Spot) (js : List Kind) (k : Kind) (ks : List Kind) → CanDoAll site s (js ++ k ∷ ks) → CanDo site (after_kinds s js) k
 CanDoAll_at site s [] k ks h = h.0
 CanDoAll_at site s (j ∷ js) k ks h = CanDoAll_at site (after_kind j s) js k ks h.1
 
+-- what a robot can do and then do is what it can do as one list
 pub CanDoAll-append : (site : Site) (s : Spot) (js ks : List Kind) → CanDoAll site s js → CanDoAll site (after_kinds s js) ks → CanDoAll site s (js ++ ks)
 CanDoAll-append site s [] ks h g = g
 CanDoAll-append site s (j ∷ js) ks h g = (h.0, CanDoAll-append site (after_kind j s) js ks h.1 g)
@@ -42,6 +44,7 @@ legal_by_place site spots [] f = tt
 legal_by_place site spots (e ∷ es) f =
     ((f [] e es refl).0, (f [] e es refl).1, legal_by_place site (after_event e spots) es (λ before x behind h. f (e ∷ before) x behind (ap (λ zs. e ∷ zs) h)))
 
+-- each event of a legal list is legal behind those in front of it
 pub legal_at : (site : Site) (spots : Spots) (before : List Event) (e : Event) (behind : List Event) → IsLegal site spots (before ++ e ∷ behind)
     → CanDo site (replay spots before e.robot.0) e.kind × IsFree site (replay spots before) e.robot.0 e.kind
 legal_at site spots [] e behind h = (h.0, h.1)
@@ -71,6 +74,7 @@ pub record IsKeptFrom (s : Spot) (d : ClaimNo) (es : List Event) : Type 0 where
   pub held : s.holds d ≡ true
   pub open_still : (x : Event) → In x es → x.kind ≡ Release d → ⊥
 
+-- with one more event in front, the claim was held before them or is acquired by one, and is not released since
 kept_more : (s : Spot) (e : Event) (es : List Event) (d : ClaimNo) → (e.kind ≡ Acquire d) ⊎ ((s.holds d ≡ true) × (e.kind ≡ Release d → ⊥)) → ((x : Event) → In x es → x.kind ≡ Release d → ⊥)
     → IsKeptFrom s d (e ∷ es) ⊎ ((a : Event) × IsKept d (e ∷ es) a)
 kept_more s e es d (inl k) none = inr (e, record { place = here refl; kind = k; open_still = λ x m kx l. In_either m (λ i. omega (arith, ap (λ (y : Event). y.no.0) i)) (λ n. none x n kx) })

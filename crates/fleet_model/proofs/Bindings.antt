@@ -16,7 +16,7 @@ use Rattle.fleet_model.specs.Sites.{IsSite, in_conflict, footprint_of, has_claim
 use Rattle.fleet_model.specs.Plans.{Fleet, IsBlocker, end_of, merged, removable_tail, withdrawn}
 use Rattle.fleet_model.specs.Cycles.{is_cycle}
 use Rattle.fleet_model.specs.States.{State, pending_of, IsDeferredOn, is_deferred_on}
-use Rattle.fleet_model.specs.Good.{IsGood}
+use Rattle.fleet_model.specs.Good.{IsGoodPlan, IsGood}
 use Rattle.fleet_model.specs.Journals.{turn_at, IsJournal, state_after}
 use Rattle.fleet_model.specs.Sound.{IsCycle, IsChange, IsDeferral, IsTrueTo, NoneDefers}
 use Rattle.fleet_model.proofs.Lists.{In_either}
@@ -24,7 +24,7 @@ use Rattle.fleet_model.proofs.Rotations.{cycle_closed, cycle_stands}
 use Rattle.fleet_model.proofs.Ends.{merged_end}
 use Rattle.fleet_model.proofs.Accepted.{Change, Grew, Kept, Dropped, Cut, Did, changed, CanChange, IsClear, Tells}
 use Rattle.fleet_model.proofs.Kept.{pending_cases, accepts_at, turn_good}
-use Rattle.fleet_model.proofs.Assumed.{withdrawn_end}
+use Rattle.fleet_model.proofs.Withdraw.{withdrawn_end}
 
 -- a deferral is there as long as the pending route of the one and the end of the other stay
 pub deferred_still : (s n : State) (r q : ℕ) → s.fleet.site ≡ n.fleet.site → s.fleet.starts ≡ n.fleet.starts → pending_of n r ≡ pending_of s r → end_of n.fleet q ≡ end_of s.fleet q → IsDeferredOn s r q → IsDeferredOn n r q
@@ -55,12 +55,12 @@ other_place : (ps : List (Option (List CellNo))) (t r : ℕ) (x : Option (List C
 other_place ps t r x apart = get_or-set_other ps t r x None (λ e. apart (sym e))
 
 -- a deferral between two robots, neither of which is the one that acts, is there before the change as after it
-kept_apart : (s : State) (t : ℕ) (c : Change) (r q : ℕ) → (t ≡ r → ⊥) → (t ≡ q → ⊥) → (pending_of (changed s t c) r ≡ pending_of s r) × (end_of (changed s t c).fleet q ≡ end_of s.fleet q)
-kept_apart s t (Grew route) r q apart free = (other_place s.pending t r None apart, merged_end s.fleet t route q free)
-kept_apart s t (Kept route) r q apart free = (other_place s.pending t r (Some route) apart, refl)
-kept_apart s t Dropped r q apart free = (other_place s.pending t r None apart, refl)
-kept_apart s t Cut r q apart free = (other_place s.pending t r None apart, withdrawn_end s.fleet t q free)
-kept_apart s t (Did e) r q apart free = (refl, refl)
+kept_apart : (s : State) → IsGoodPlan s.fleet → (t : ℕ) (c : Change) (r q : ℕ) → (t ≡ r → ⊥) → (t ≡ q → ⊥) → (pending_of (changed s t c) r ≡ pending_of s r) × (end_of (changed s t c).fleet q ≡ end_of s.fleet q)
+kept_apart s good t (Grew route) r q apart free = (other_place s.pending t r None apart, merged_end s.fleet t route q free)
+kept_apart s good t (Kept route) r q apart free = (other_place s.pending t r (Some route) apart, refl)
+kept_apart s good t Dropped r q apart free = (other_place s.pending t r None apart, refl)
+kept_apart s good t Cut r q apart free = (other_place s.pending t r None apart, withdrawn_end s.fleet t q good free)
+kept_apart s good t (Did e) r q apart free = (refl, refl)
 
 same_site : (s : State) (t : ℕ) (c : Change) → (s.fleet.site ≡ (changed s t c).fleet.site) × (s.fleet.starts ≡ (changed s t c).fleet.starts)
 same_site s t (Grew route) = (refl, refl)
@@ -70,16 +70,16 @@ same_site s t Cut = (refl, refl)
 same_site s t (Did e) = (refl, refl)
 
 -- where the one that acts is no member, each deferral between members is there after the change
-apart_still : (s : State) (members : List ℕ) (t : ℕ) (c : Change) → (In t members → ⊥) → (r q : ℕ) → In r members → In q members → IsDeferredOn s r q → IsDeferredOn (changed s t c) r q
-apart_still s members t c out r q i j d =
-    let k = kept_apart s t c r q (λ e. out (subst (λ x. In x members) (sym e) i)) (λ e. out (subst (λ x. In x members) (sym e) j)) in
+apart_still : (s : State) → IsGoodPlan s.fleet → (members : List ℕ) (t : ℕ) (c : Change) → (In t members → ⊥) → (r q : ℕ) → In r members → In q members → IsDeferredOn s r q → IsDeferredOn (changed s t c) r q
+apart_still s good members t c out r q i j d =
+    let k = kept_apart s good t c r q (λ e. out (subst (λ x. In x members) (sym e) i)) (λ e. out (subst (λ x. In x members) (sym e) j)) in
     let w = same_site s t c in
     deferred_still s (changed s t c) r q w.0 w.1 k.0 k.1 d
 
 -- and was there before it
-apart_stood : (s : State) (members : List ℕ) (t : ℕ) (c : Change) → (In t members → ⊥) → (r q : ℕ) → In r members → In q members → IsDeferredOn (changed s t c) r q → IsDeferredOn s r q
-apart_stood s members t c out r q i j d =
-    let k = kept_apart s t c r q (λ e. out (subst (λ x. In x members) (sym e) i)) (λ e. out (subst (λ x. In x members) (sym e) j)) in
+apart_stood : (s : State) → IsGoodPlan s.fleet → (members : List ℕ) (t : ℕ) (c : Change) → (In t members → ⊥) → (r q : ℕ) → In r members → In q members → IsDeferredOn (changed s t c) r q → IsDeferredOn s r q
+apart_stood s good members t c out r q i j d =
+    let k = kept_apart s good t c r q (λ e. out (subst (λ x. In x members) (sym e) i)) (λ e. out (subst (λ x. In x members) (sym e) j)) in
     let w = same_site s t c in
     deferred_still (changed s t c) s r q (sym w.0) (sym w.1) (sym k.0) (sym k.1) d
 
@@ -88,13 +88,13 @@ IsReport : Change → Type 0
 IsReport c = (e : Event) × (c ≡ Did e)
 
 -- where no member acts, or the act is a report, each deferral between members is there after the change
-stays_apart : (s : State) (members : List ℕ) (t : ℕ) (c : Change) → (In t members → IsReport c) → (r q : ℕ) → In r members → In q members → IsDeferredOn s r q → IsDeferredOn (changed s t c) r q
+stays_apart : (s : State) → IsGoodPlan s.fleet → (members : List ℕ) (t : ℕ) (c : Change) → (In t members → IsReport c) → (r q : ℕ) → In r members → In q members → IsDeferredOn s r q → IsDeferredOn (changed s t c) r q
 unfolding IsReport
-stays_apart s members t (Did e) out r q i j d = deferred_still s (changed s t (Did e)) r q refl refl refl refl d
-stays_apart s members t (Grew route) out r q i j d = apart_still s members t (Grew route) (λ k. let x = out k in let y = x.1 in cc) r q i j d
-stays_apart s members t (Kept route) out r q i j d = apart_still s members t (Kept route) (λ k. let x = out k in let y = x.1 in cc) r q i j d
-stays_apart s members t Dropped out r q i j d = apart_still s members t Dropped (λ k. let x = out k in let y = x.1 in cc) r q i j d
-stays_apart s members t Cut out r q i j d = apart_still s members t Cut (λ k. let x = out k in let y = x.1 in cc) r q i j d
+stays_apart s good members t (Did e) out r q i j d = deferred_still s (changed s t (Did e)) r q refl refl refl refl d
+stays_apart s good members t (Grew route) out r q i j d = apart_still s good members t (Grew route) (λ k. let x = out k in let y = x.1 in cc) r q i j d
+stays_apart s good members t (Kept route) out r q i j d = apart_still s good members t (Kept route) (λ k. let x = out k in let y = x.1 in cc) r q i j d
+stays_apart s good members t Dropped out r q i j d = apart_still s good members t Dropped (λ k. let x = out k in let y = x.1 in cc) r q i j d
+stays_apart s good members t Cut out r q i j d = apart_still s good members t Cut (λ k. let x = out k in let y = x.1 in cc) r q i j d
 
 -- a member whose pending route was dropped or merged isn't deferred any more
 now_none : (ps : List (Option (List CellNo))) (t : ℕ) (route : List CellNo) → get_or (set ps t None) t None ≡ Some route → ⊥
@@ -157,13 +157,13 @@ reports_or_defers s t members Dropped a tells closed none i = absurd (now_none s
 reports_or_defers s t members Cut a tells closed none i = absurd (now_none s.pending t (closed t i).2.route (closed t i).2.pending)
 
 -- where no member acts, or the act is a report, each deferral between members was there before the change
-stood_apart : (s : State) (members : List ℕ) (t : ℕ) (c : Change) → (In t members → IsReport c) → (r q : ℕ) → In r members → In q members → IsDeferredOn (changed s t c) r q → IsDeferredOn s r q
+stood_apart : (s : State) → IsGoodPlan s.fleet → (members : List ℕ) (t : ℕ) (c : Change) → (In t members → IsReport c) → (r q : ℕ) → In r members → In q members → IsDeferredOn (changed s t c) r q → IsDeferredOn s r q
 unfolding IsReport
-stood_apart s members t (Did e) out r q i j d = deferred_still (changed s t (Did e)) s r q refl refl refl refl d
-stood_apart s members t (Grew route) out r q i j d = apart_stood s members t (Grew route) (λ k. let x = out k in let y = x.1 in cc) r q i j d
-stood_apart s members t (Kept route) out r q i j d = apart_stood s members t (Kept route) (λ k. let x = out k in let y = x.1 in cc) r q i j d
-stood_apart s members t Dropped out r q i j d = apart_stood s members t Dropped (λ k. let x = out k in let y = x.1 in cc) r q i j d
-stood_apart s members t Cut out r q i j d = apart_stood s members t Cut (λ k. let x = out k in let y = x.1 in cc) r q i j d
+stood_apart s good members t (Did e) out r q i j d = deferred_still (changed s t (Did e)) s r q refl refl refl refl d
+stood_apart s good members t (Grew route) out r q i j d = apart_stood s good members t (Grew route) (λ k. let x = out k in let y = x.1 in cc) r q i j d
+stood_apart s good members t (Kept route) out r q i j d = apart_stood s good members t (Kept route) (λ k. let x = out k in let y = x.1 in cc) r q i j d
+stood_apart s good members t Dropped out r q i j d = apart_stood s good members t Dropped (λ k. let x = out k in let y = x.1 in cc) r q i j d
+stood_apart s good members t Cut out r q i j d = apart_stood s good members t Cut (λ k. let x = out k in let y = x.1 in cc) r q i j d
 
 report_of : (s : State) (members : List ℕ) (t : ℕ) (c : Change) → (In t members → (e : Event) × (c ≡ Did e)) → In t members → IsReport c
 unfolding IsReport
@@ -177,7 +177,7 @@ turn_binds s members entry is_site good cycle told keeps =
     let t = entry.robot.0 in
     let closed : IsClosed s members = cycle_closed s members cycle in
     let reports : In t members → (e : Event) × (a.change ≡ Did e) × (entry.act ≡ Reported e.no) = λ i. only_reports s members closed t a.change entry.act a.can a.tells (keeps i) i in (
-      subst (λ n. IsCycle n members) (sym a.after_is) (cycle_stands s (changed s t a.change) members (stays_apart s members t a.change (report_of s members t a.change (λ i. let r = reports i in (r.0, r.1)))) cycle),
+      subst (λ n. IsCycle n members) (sym a.after_is) (cycle_stands s (changed s t a.change) members (stays_apart s good.plan members t a.change (report_of s members t a.change (λ i. let r = reports i in (r.0, r.1)))) cycle),
       λ i. let r = reports i in (r.0.no, r.2),
     )
 
@@ -204,4 +204,4 @@ cycle_stood s members (entry ∷ entries) is_site good h cycle none =
     let g = turn_good s entry is_site good h.0 in
     let later : IsCycle (turn_at s entry).after members = cycle_stood (turn_at s entry).after members entries g.1 g.0 h.1 cycle (λ other i j. none other (there i) j) in
     let here_after : IsCycle (changed s t a.change) members = subst (λ n. IsCycle n members) a.after_is later in
-    cycle_stands (changed s t a.change) s members (stood_apart s members t a.change (λ i. reports_or_defers s t members a.change entry.act a.tells (cycle_closed (changed s t a.change) members here_after) (none entry (here refl) i) i)) here_after
+    cycle_stands (changed s t a.change) s members (stood_apart s good.plan members t a.change (λ i. reports_or_defers s t members a.change entry.act a.tells (cycle_closed (changed s t a.change) members here_after) (none entry (here refl) i) i)) here_after

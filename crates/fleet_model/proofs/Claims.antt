@@ -9,6 +9,7 @@ use Rattle.fleet_base.specs.Lists.{RiseFrom}
 use Rattle.fleet_model.specs.Sites.{Site, exclude, in_conflict, footprint_of, has_claim, IsDistinct, IsSite}
 use Rattle.fleet_model.proofs.Alone.{same_claim}
 
+-- two different claims exclude each other both ways
 exclude_symmetric : (o p : Option ClaimGroup) → exclude o p false ≡ true → exclude p o false ≡ true
 exclude_symmetric None p h = absurd (both_ways false refl h)
 exclude_symmetric (Some g) None h = absurd (both_ways false refl h)
@@ -26,10 +27,12 @@ conflict_symmetric site c d h = go (cases_Bool (c.0 == d.0))
     go (inl t) = let e : c ≡ d = same_claim c d t in cc
     go (inr f) = rw (apart f) (exclude_symmetric (slice_get site.groups c.0) (slice_get site.groups d.0) (rw f at h))
 
+-- a claim below all of a rising list is not in it
 unnamed : (low : ℕ) (cs : List ClaimNo) (c : ClaimNo) → RiseFrom low cs → c.0 < low → has_claim cs c ≡ false
 unnamed low [] c h l = refl
 unnamed low (d ∷ ds) c h l = let a = h.0 in or_from (d.0 == c.0) (has_claim ds c) (ne_eqb d.0 c.0 (λ e. omega arith)) (unnamed (d.0 + 1) ds c h.1 (omega arith))
 
+-- a rising list names no claim twice
 rise_distinct : (low : ℕ) (cs : List ClaimNo) → RiseFrom low cs → IsDistinct cs
 rise_distinct low [] h = tt
 rise_distinct low (c ∷ cs) h = (unnamed (c.0 + 1) cs c h.1 (omega arith), rise_distinct (c.0 + 1) cs h.1)

@@ -20,5 +20,6 @@ pub merged_end : (m : Fleet) (r : ℕ) (route : List CellNo) (q : ℕ) → (r �
 merged_end m r route q h =
     end_same (merged m r route) m q refl refl (kinds-append q m.plan (route_events m r route) ∙ (ap (λ es. kinds q m.plan ++ map (λ (e : Event). e.kind) es) (own-numbered m.next r q (steps m.site route) h) ∙ append-nil (kinds q m.plan)))
 
+-- a route stays legal where the end of its robot stays
 pub route_still : (m n : Fleet) (r : ℕ) (route : List CellNo) → m.site ≡ n.site → end_of m r ≡ end_of n r → IsRoute m r route → IsRoute n r route
 route_still m n r route s e h = record { long = h.long; short = h.short; linked = subst (λ x. IsWalk x route) s h.linked; begins = h.begins ∙ ap (λ a. Some a) e }

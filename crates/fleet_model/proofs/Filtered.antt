@@ -13,6 +13,7 @@ use Rattle.fleet_model.proofs.Numbers.{low_bound, ascending_apart, ascending_beh
 module _ (behind : Event → Event → Type 0) (plan done : List Event) (p : Event → Bool) (ascends : IsAscending 1 plan)
     (fresh : (e : Event) → In e plan → p e ≡ true → is_done done e ≡ false)
     (closed : (e f : Event) → In e plan → p e ≡ true → In f plan → behind e f → (is_done done f ≡ true) ⊎ ((p f ≡ true) × (f.no.0 < e.no.0))) where
+  -- each event that passes is ready behind those in front of it that pass
   ready_at : (front : List Event) (e : Event) (back : List Event) → plan ≡ front ++ e ∷ back → p e ≡ true → IsReady behind plan (done ++ filter p front) e
   ready_at front e back h t = record {
     planned = planned;
@@ -30,6 +31,7 @@ module _ (behind : Event → Event → Type 0) (plan done : List Event) (p : Eve
       in_front f q l (inl i) = done_in (filter p front) (In-filter p front i q)
       in_front f q l (inr i) = In_either i (λ k. absurd (omega (arith, ap (λ (x : Event). x.no.0) k))) (λ k. let b = low_bound (e.no.0 + 1) back (ascending_behind 1 front (e ∷ back) rises).1 k in absurd (omega arith))
 
+  -- an order goes on over one more event, which passes or not
   order_step : (front : List Event) (e : Event) (back : List Event) (b : Bool) → plan ≡ front ++ e ∷ back → p e ≡ b → IsOrder behind plan (done ++ filter p (front ++ e ∷ [])) (filter p back)
       → IsOrder behind plan (done ++ filter p front) (cond b (e ∷ filter p back) (filter p back))
   order_step front e back true h t rest = (
@@ -39,9 +41,11 @@ module _ (behind : Event → Event → Type 0) (plan done : List Event) (p : Eve
   order_step front e back false h t rest =
       subst (λ d. IsOrder behind plan d (filter p back)) (ap (λ es. done ++ es) (filter-append p front (e ∷ []) ∙ (ap (λ es. filter p front ++ es) (filter_out p e [] t) ∙ append-nil (filter p front)))) rest
 
+  -- what passes of the rest is an order once what passes in front is done
   order_from : (front back : List Event) → plan ≡ front ++ back → IsOrder behind plan (done ++ filter p front) (filter p back)
   order_from front [] h = tt
   order_from front (e ∷ back) h = order_step front e back (p e) h refl (order_from (front ++ e ∷ []) back (h ∙ sym (append_assoc front (e ∷ []) back)))
 
+  -- the events that pass are an order
   pub filter_order : IsOrder behind plan done (filter p plan)
   filter_order = subst (λ d. IsOrder behind plan d (filter p plan)) (append-nil done) (order_from [] plan refl)

@@ -1,18 +1,18 @@
 -- Readiness over the events that are kept, readiness that lasts, and ends.
-use Rattle.std.proofs.Common.{◌≡◌, ◌≢◌, ℕ, ◌+◌, Bool, true, false, cond, not, ◌==◌, ◌⊎◌, inl, inr, refl, sym, ap, ◌∙◌, subst, List, [], ◌∷◌, ◌++◌, map, Some}
-use Rattle.std.proofs.lemmas.Bool.{cases_Bool, not-true, not_from_false, eqb-true}
+use Rattle.std.proofs.Common.{◌≡◌, ◌≢◌, ℕ, Bool, true, false, cond, not, ◌⊎◌, inl, inr, refl, sym, ap, ◌∙◌, List, [], ◌∷◌, ◌++◌, Some}
+use Rattle.std.proofs.lemmas.Bool.{cases_Bool, not-true, not_from_false}
 use Rattle.std.specs.Prelude.{slice_get}
 use Rattle.std.specs.List.{filter}
 use Rattle.fleet_base.specs.declared.numbers.CellNo.{CellNo}
 use Rattle.fleet_base.specs.declared.numbers.ClaimNo.{ClaimNo}
 use Rattle.fleet_base.specs.declared.numbers.Event.{Event}
-use Rattle.fleet_model.specs.Lists.{In, here}
-use Rattle.fleet_model.specs.Sites.{in_conflict, footprint_of, Site, IsSite, has_claim, steps}
+use Rattle.fleet_model.specs.Lists.{In}
+use Rattle.fleet_model.specs.Sites.{in_conflict, footprint_of, Site, IsSite, has_claim}
 use Rattle.fleet_model.specs.Replays.{opening, after_kinds}
-use Rattle.fleet_model.specs.Plans.{Fleet, after, own, kinds, is_done, is_awaited, IsReady, IsBehind, IsAllowed, end_of, route_events, merged, withdrawn}
+use Rattle.fleet_model.specs.Plans.{Fleet, after, own, kinds, is_done, is_awaited, IsReady, IsBehind, end_of, merged, withdrawn}
 use Rattle.fleet_model.specs.Good.{IsGoodPlan, Opens, Closes}
 use Rattle.fleet_model.proofs.Lists.{In-filter, In_unfilter, In_either}
-use Rattle.fleet_model.proofs.Numbers.{IsAscending-own, In_own, own_In, low_bound, done_neither, done_left, done_none, from_one}
+use Rattle.fleet_model.proofs.Numbers.{IsAscending-own, In_own, own_In, done_neither, done_left, done_none, from_one}
 use Rattle.fleet_model.proofs.Alone.{IsKept, IsKeptFrom, held_since}
 use Rattle.fleet_model.proofs.Good.{end_held}
 use Rattle.fleet_model.proofs.Merge.{allowed_still}

@@ -16,11 +16,13 @@ use Rattle.fleet_model.proofs.Alone.{replay_own}
 use Rattle.fleet_model.proofs.Walks.{walk_able, walk_holds, walk_stands}
 use Rattle.fleet_model.proofs.Safe as safe
 
+-- each robot alone can do its planned events
 pub able : (m : Fleet) → IsSite m.site → IsGoodPlan m → (r : ℕ) → CanDoAll m.site (opening m.site m.starts r) (kinds r m.plan)
 able m is_site good r = walk_able m.site is_site (slice_get m.starts r) (kinds r m.plan) (good.walks r)
 
+-- a good plan is safe
 pub good_safe : (m : Fleet) → IsSite m.site → IsGoodPlan m → IsSafe m
-good_safe m is_site good = safe.safe m good is_site (able m is_site good)
+good_safe m is_site good = safe.safe m good (able m is_site good)
 
 pub end_is : (m : Fleet) (q : ℕ) → end_of m q ≡ (after_kinds (opening m.site m.starts q) (kinds q m.plan)).cell
 end_is m q = ap (λ (t : Spot). t.cell) (replay_own (opening m.site m.starts) m.plan q)
@@ -38,9 +40,11 @@ end_held m is_site good q a d robot h =
     subst (λ o. (after_kinds (start_at m.site o) (kinds q m.plan)).holds d ≡ has_claim (footprint_of m.site (after_kinds (start_at m.site o) (kinds q m.plan)).cell) d) (sym robot) (stands.holds d) in
     there ∙ subst (λ x. has_claim (footprint_of m.site x) d ≡ true) (end_is m q) h
 
+-- what an event waits for has a smaller number
 pub awaited_less : (site : Site) (e f : Event) → is_awaited site e f ≡ true → f.no.0 < e.no.0
 awaited_less site e f h = ltb-true f.no.0 e.no.0 (and_parts (nat_lt f.no.0 e.no.0) (not (f.robot.0 == e.robot.0) && clashes site e.kind f.kind) h).0
 
+-- what an event comes behind has a smaller number
 pub behind_less : (site : Site) (e f : Event) → IsBehind site e f → f.no.0 < e.no.0
 behind_less site e f (inl h) = h.1
 behind_less site e f (inr h) = awaited_less site e f h
@@ -51,6 +55,7 @@ pub record IsFirst (es done : List Event) (f : Event) : Type 0 where
   pub undone : is_done done f ≡ false
   pub least : (g : Event) → In g es → g.no.0 < f.no.0 → is_done done g ≡ true
 
+-- the first undone event, with one more event in front
 first_step : (low : ℕ) (e : Event) (es done : List Event) → IsAscending low (e ∷ es) → (is_done done e ≡ true) ⊎ (is_done done e ≡ false) → ((x : Event) → In x es → is_done done x ≡ false → (f : Event) × IsFirst es done f)
     → (x : Event) → In x (e ∷ es) → is_done done x ≡ false → (f : Event) × IsFirst (e ∷ es) done f
 first_step low e es done h (inr u) ih x m n =
@@ -60,10 +65,12 @@ first_step low e es done h (inl d) ih x m n =
     let f : (f : Event) × IsFirst es done f = ih x rest n in
     (f.0, record { planned = there f.1.planned; undone = f.1.undone; least = λ g p l. In_either p (λ i. rw i d) (λ k. f.1.least g k l) })
 
+-- where an event is undone there is a first undone one
 pub first_unfinished : (low : ℕ) (es done : List Event) → IsAscending low es → (x : Event) → In x es → is_done done x ≡ false → (f : Event) × IsFirst es done f
 first_unfinished low [] done h x m n = elim m [ ]
 first_unfinished low (e ∷ es) done h x m n = first_step low e es done h (cases_Bool (is_done done e)) (first_unfinished (e.no.0 + 1) es done h.1) x m n
 
+-- the first undone event is ready
 pub ready_event : (m : Fleet) → IsGoodPlan m → (e : Event) → In e m.plan → is_done m.finished e ≡ false → (f : Event) × IsReady (IsBehind m.site) m.plan m.finished f
 ready_event m good e planned undone =
     let f : (f : Event) × IsFirst m.plan m.finished f = first_unfinished 1 m.plan m.finished (from_one m good) e planned undone in

@@ -22,14 +22,17 @@ use Rattle.fleet_model.proofs.Good.{end_holds, end_is}
 use Rattle.fleet_model.proofs.Merge.{numbered-ascending, numbered-robot, numbered-below, order_still}
 use Rattle.fleet_model.proofs.Uses.{use_closes}
 
+-- events below a number and events from it on rise together
 pub ascending-append : (low next : ℕ) (xs ys : List Event) → low ≤ next → ((e : Event) → In e xs → e.no.0 < next) → IsAscending low xs → IsAscending next ys → IsAscending low (xs ++ ys)
 ascending-append low next [] ys l f h g = IsAscending_lower next low ys l g
 ascending-append low next (x ∷ xs) ys l f h g = (h.0, ascending-append (x.no.0 + 1) next xs ys (let b = f x (here refl) in omega arith) (λ e m. f e (there m)) h.1 g)
 
+-- an event of the numbered does one of these things
 pub numbered-kind : (n r : ℕ) (ks : List Kind) (e : Event) → In e (numbered n r ks) → In e.kind ks
 numbered-kind n r [] e m = elim m [ ]
 numbered-kind n r (k ∷ ks) e m = In_either m (λ i. here (ap (λ (x : Event). x.kind) i)) (λ j. there (numbered-kind (n + 1) r ks e j))
 
+-- each of these things is done by an event of the numbered
 pub numbered-event : (n r : ℕ) (ks : List Kind) (k : Kind) → In k ks → (e : Event) × In e (numbered n r ks) × (e.kind ≡ k)
 numbered-event n r [] k i = elim i [ ]
 numbered-event n r (j ∷ ks) k (here h) = (record { no = record { 0 = n }; robot = record { 0 = r }; kind = j }, here refl, sym h)
@@ -46,14 +49,17 @@ own-numbered n r q (k ∷ ks) h = rw (ne_eqb r q h) (own-numbered (n + 1) r q ks
 pub kinds-append : (q : ℕ) (xs ys : List Event) → kinds q (xs ++ ys) ≡ kinds q xs ++ kinds q ys
 kinds-append q xs ys = ap (λ es. map (λ (e : Event). e.kind) es) (own-append q xs ys) ∙ map-append (λ (e : Event). e.kind) (own q xs) (own q ys)
 
-steps-append : (site : Site) (a : CellNo) (xs ys : List CellNo) → steps_from site a (xs ++ ys) ≡ steps_from site a xs ++ steps_from site (last_cell a xs) ys
+-- the steps of two walks, one behind the other
+pub steps-append : (site : Site) (a : CellNo) (xs ys : List CellNo) → steps_from site a (xs ++ ys) ≡ steps_from site a xs ++ steps_from site (last_cell a xs) ys
 steps-append site a [] ys = refl
 steps-append site a (x ∷ xs) ys = ap (λ ks. step site a x ++ ks) (steps-append site x xs ys) ∙ sym (append_assoc (step site a x) (steps_from site x xs) (steps_from site (last_cell x xs) ys))
 
+-- a walk and one that goes on from its last cell are one walk
 walk-append : (site : Site) (a : CellNo) (xs ys : List CellNo) → IsWalkFrom site a xs → IsWalkFrom site (last_cell a xs) ys → IsWalkFrom site a (xs ++ ys)
 walk-append site a [] ys h g = g
 walk-append site a (x ∷ xs) ys h g = (h.0, walk-append site x xs ys h.1 g)
 
+-- the steps of a walk that goes on from where a robot is make one walk with those before
 walk_more : (site : Site) → IsSite site → (o : Option CellNo) (a z : CellNo) (ks : List Kind) (cells : List CellNo) → o ≡ Some a → AreSteps site o ks → z ≡ (after_kinds (start_at site o) ks).cell → IsWalkFrom site z cells → AreSteps site o (ks ++ steps_from site z cells)
 walk_more site is_site None a z ks cells e h g w = absurd (cc)
 walk_more site is_site (Some b) a z ks cells e h g w =
@@ -70,6 +76,7 @@ route_walk m r (a ∷ cells) h =
     let same : a ≡ end_of m r = same_Some a (end_of m r) h.begins in
     (cells, subst (λ x. IsWalkFrom m.site x cells) same h.linked, ap (λ x. steps_from m.site x cells) same)
 
+-- a robot that holds a claim has a start
 held_robot : (site : Site) (o : Option CellNo) (ks : List Kind) (c : ClaimNo) → AreSteps site o ks → (after_kinds (start_at site o) ks).holds c ≡ true → (a : CellNo) × (o ≡ Some a)
 held_robot site None ks c h held = absurd (both_ways false refl (rw h at held))
 held_robot site (Some a) ks c h held = (a, refl)
@@ -82,21 +89,25 @@ module _ (m : Fleet) (r : ℕ) (a : CellNo) (route : List CellNo) (is_site : IsS
   abbrev after : Fleet
   after = merged m r route
 
+  -- the events of the route have the numbers from the next on
   high : (e : Event) → In e news → m.next ≤ e.no.0
   high e i = low_bound m.next news (numbered-ascending m.next r (steps m.site route)) i
 
+  -- each robot's events are the steps of one walk after the merge
   walk_at : (q : ℕ) → (r ≡ q) ⊎ (r ≡ q → ⊥) → AreSteps m.site (slice_get m.starts q) (kinds q after.plan)
   walk_at q (inl e) =
       subst (λ x. AreSteps m.site (slice_get m.starts x) (kinds x after.plan)) e
       (rw (kinds-append r m.plan news, kinds-numbered m.next r (steps m.site route)) (let w = route_walk m r route is_route in rw w.2 (walk_more m.site is_site (slice_get m.starts r) a (end_of m r) (kinds r m.plan) w.0 robot (good.walks r) (end_is m r) w.1)))
   walk_at q (inr e) = rw (kinds-append q m.plan news, own-numbered m.next r q (steps m.site route) e, append-nil) (good.walks q)
 
+  -- a use that was closed stays closed
   still : (q : ℕ) (c : ClaimNo) (low high : ℕ) → Closes m.plan q c low high → Closes after.plan q c low high
   still q c low high x = record { event = x.event; planned = In-append_left m.plan news x.planned; robot = x.robot; kind = x.kind; above = x.above; below = x.below }
 
   abbrev New : ℕ → ClaimNo → ℕ → Type 0
   New q c n = (e : Event) × In e news × (e.robot.0 ≡ q) × (e.kind ≡ Acquire c) × (e.no.0 ≡ n)
 
+  -- a use after the merge is one of before or one of the route
   opens_cases : (q : ℕ) (c : ClaimNo) (n : ℕ) → Opens after q c n → Opens m q c n ⊎ New q c n
   opens_cases q c n (inl s) = inl (inl s)
   opens_cases q c n (inr o) = elim (In-append_cases m.plan news o.1) [ inl i ↦ inl (inr (o.0, i, o.2, o.3, o.4)) | inr i ↦ inr (o.0, i, o.2, o.3, o.4) ]
@@ -128,12 +139,14 @@ module _ (m : Fleet) (r : ℕ) (a : CellNo) (route : List CellNo) (is_site : IsS
           let l = x.below in let g = new.4 in
           record { event = x.event; planned = In-append_left m.plan news x.planned; robot = x.robot; kind = x.kind; above = x.above; below = omega (arith, late) }
 
+  -- of two conflicting uses after the merge one is closed before the other opens
   uses_kept : (q s : ℕ) (c d : ClaimNo) (n k : ℕ) → q ≢ s → in_conflict m.site c d ≡ true → Opens m q c n ⊎ New q c n → Opens m s d k ⊎ New s d k → Closes after.plan q c n k ⊎ Closes after.plan s d k n
   uses_kept q s c d n k apart conflict (inl x) (inl y) = elim (good.uses q s c d n k apart conflict x y) [ inl u ↦ inl (still q c n k u) | inr u ↦ inr (still s d k n u) ]
   uses_kept q s c d n k apart conflict (inl x) (inr y) = inl (behind_old q s c d n k apart (conflict_symmetric m.site c d conflict) x y)
   uses_kept q s c d n k apart conflict (inr x) (inl y) = inr (behind_old s q d c k n (λ e. apart (sym e)) conflict y x)
   uses_kept q s c d n k apart conflict (inr x) (inr y) = absurd (apart (sym x.2 ∙ (numbered-robot m.next r (steps m.site route) x.0 x.1 ∙ (sym (numbered-robot m.next r (steps m.site route) y.0 y.1) ∙ y.2))))
 
+  -- the merge keeps the plan good
   pub merge_good : IsGoodPlan (merged m r route)
   merge_good = record {
     numbers = ascending-append m.first m.next m.plan news good.opened good.next good.numbers (numbered-ascending m.next r (steps m.site route));

@@ -36,12 +36,14 @@ module _ (m : Fleet) (r : ℕ) (route : List CellNo) (is_site : IsSite m.site) (
   abbrev start : Spots
   start = opening m.site m.starts
 
+  -- the events of the route have the numbers from the next on
   high : (e : Event) → In e news → m.next ≤ e.no.0
   high e i = low_bound m.next news (numbered-ascending m.next r (steps m.site route)) i
 
   moving : (e : Event) → In e news → e.robot.0 ≡ r
   moving e i = numbered-robot m.next r (steps m.site route) e i
 
+  -- the events of the plan with those of the route rise
   rises : IsAscending 1 plan
   rises = ascending-append 1 m.next m.plan news (let f = good.first in let o = good.opened in omega arith) good.next (from_one m good) (numbered-ascending m.next r (steps m.site route))
 
@@ -49,14 +51,17 @@ module _ (m : Fleet) (r : ℕ) (route : List CellNo) (is_site : IsSite m.site) (
   old_one : (e : Event) → In e plan → e.no.0 < m.next → In e m.plan
   old_one e i l = elim (In-append_cases m.plan news i) [ inl j ↦ j | inr j ↦ (let h = high e j in absurd (omega arith)) ]
 
+  -- an event of the plan with a high number is of the route
   new_one : (e : Event) → In e plan → m.next ≤ e.no.0 → In e news
   new_one e i l = elim (In-append_cases m.plan news i) [ inl j ↦ (let h = good.next e j in absurd (omega arith)) | inr j ↦ j ]
 
+  -- what an event comes behind has a smaller number
   by_less : (e f : Event) → by e f → f.no.0 < e.no.0
   by_less e f (inl h) = h.1
   by_less e f (inr (inl h)) = awaited_less m.site e f h.1
   by_less e f (inr (inr p)) = let h = high e (insertion.new f e p) in let l = good.next f (insertion.planned f e p) in omega arith
 
+  -- an event comes behind each earlier one of its robot
   by_own : (e f : Event) → f.robot.0 ≡ e.robot.0 → f.no.0 < e.no.0 → by e f
   by_own e f h l = inl (h, l)
 
@@ -75,12 +80,14 @@ module _ (m : Fleet) (r : ℕ) (route : List CellNo) (is_site : IsSite m.site) (
       waited f (inl i) (inr (inr p)) = let l = high e (insertion.new f e p) in absurd (omega arith)
       waited f (inr i) b = let l = high f i in let k = by_less e f b in absurd (omega arith)
 
+  -- what is finished has a low number
   finished_low : (e : Event) → In e plan → m.next ≤ e.no.0 → is_done m.finished e ≡ false
   finished_low e i l = done_none m.finished e (λ g j n. let k = good.next g ((orders.order_kept (IsBehind m.site) m.plan (from_one m good) (λ x y a b. inl (a, b)) [] m.finished (orders.kept_none (IsBehind m.site) m.plan) good.finished).planned g j) in omega arith)
 
   abbrev Kept : List Event → Type 0
   Kept done = orders.IsKept by plan done
 
+  -- what is done by an order is of the plan with all that it comes behind
   kept_after : (order : List Event) → IsOrder by plan m.finished order → Kept (m.finished ++ order)
   kept_after order h = orders.order_kept by plan rises by_own m.finished order (orders.order_kept by plan rises by_own [] m.finished (orders.kept_none by plan) (old_order [] m.finished good.finished)) h
 
@@ -97,11 +104,13 @@ module _ (m : Fleet) (r : ℕ) (route : List CellNo) (is_site : IsSite m.site) (
   abbrev undone : Event → Bool
   undone e = not (is_done m.finished e)
 
+  -- all unfinished events by number are an order
   everything : IsOrder by plan m.finished (filter undone plan)
   everything =
       filter_order by plan m.finished undone rises (λ e i t. not-true (is_done m.finished e) t)
       (λ e f i t j b. elim (cases_Bool (is_done m.finished f)) [ inl d ↦ inl d | inr d ↦ inr (not_from_false (is_done m.finished f) d, by_less e f b) ])
 
+  -- no other robot holds what conflicts with an acquire that is free
   free_of : (spots : Spots) (e : Event) (c : ClaimNo) → e.kind ≡ Acquire c → IsFree m.site spots e.robot.0 e.kind → (q : ℕ) (d : ClaimNo) → q ≢ e.robot.0 → (spots q).holds d ≡ true → in_conflict m.site c d ≡ true → ⊥
   free_of spots e c k free = let f : IsFree m.site spots e.robot.0 (Acquire c) = subst (λ x. IsFree m.site spots e.robot.0 x) k free in f
 
@@ -172,27 +181,32 @@ module _ (m : Fleet) (r : ℕ) (route : List CellNo) (is_site : IsSite m.site) (
     abbrev olds : List Event
     olds = filter early plan
 
+    -- what an early event is
     early_parts : (f : Event) → early f ≡ true → (is_done m.finished f ≡ false) × (f.no.0 < m.next) × ((is_done whole f ≡ true) ⊎ (f.no.0 < x.no.0))
     early_parts f t =
         let a = and_parts (not (is_done m.finished f)) (nat_lt f.no.0 m.next && (is_done whole f || nat_lt f.no.0 x.no.0)) t in
         let b = and_parts (nat_lt f.no.0 m.next) (is_done whole f || nat_lt f.no.0 x.no.0) a.1 in
         (not-true (is_done m.finished f) a.0, ltb-true f.no.0 m.next b.0, elim (or_cases (is_done whole f) (nat_lt f.no.0 x.no.0) b.1) [ inl w ↦ inl w | inr l ↦ inr (ltb-true f.no.0 x.no.0 l) ])
 
+    -- which events are early
     early_from : (f : Event) → is_done m.finished f ≡ false → f.no.0 < m.next → (is_done whole f ≡ true) ⊎ (f.no.0 < x.no.0) → early f ≡ true
     early_from f u l w =
         and_from (not (is_done m.finished f)) (nat_lt f.no.0 m.next && (is_done whole f || nat_lt f.no.0 x.no.0)) (not_from_false (is_done m.finished f) u)
         (and_from (nat_lt f.no.0 m.next) (is_done whole f || nat_lt f.no.0 x.no.0) (lt-ltb f.no.0 m.next l)
         (elim w [ inl t ↦ or_left (is_done whole f) (nat_lt f.no.0 x.no.0) t | inr t ↦ or_right (is_done whole f) (nat_lt f.no.0 x.no.0) (lt-ltb f.no.0 x.no.0 t) ]))
 
+    -- a fresh event has a high number
     fresh_parts : (f : Event) → fresh f ≡ true → m.next ≤ f.no.0
     fresh_parts f t = ltb-false f.no.0 m.next (not-true (nat_lt f.no.0 m.next) t)
 
+    -- what an event that came comes behind came too, or was finished
     came_on : (f g : Event) → In f plan → is_done whole f ≡ true → In g plan → by f g → is_done m.finished g ≡ false → is_done whole g ≡ true
     came_on f g i w j b u =
         let kept : Kept (m.finished ++ whole) = kept_after whole ordered in
         elim (done_cases m.finished whole g (kept.closed f g (orders.In_done by plan rises by_own (m.finished ++ whole) kept f i (done_right m.finished whole f w)) j b))
         [ inl t ↦ absurd (both_ways (is_done m.finished g) u t) | inr t ↦ t ]
 
+    -- what an early event comes behind is finished or early
     olds_closed : (f g : Event) → In f plan → early f ≡ true → In g plan → by f g → (is_done m.finished g ≡ true) ⊎ (is_done m.finished g ≡ false) → (is_done m.finished g ≡ true) ⊎ ((early g ≡ true) × (g.no.0 < f.no.0))
     olds_closed f g i t j b (inl t') = inl t'
     olds_closed f g i t j b (inr u) =
@@ -200,9 +214,11 @@ module _ (m : Fleet) (r : ℕ) (route : List CellNo) (is_site : IsSite m.site) (
         let l = by_less f g b in
         inr (early_from g u (let k = p.1 in omega arith) (elim p.2 [ inl w ↦ inl (came_on f g i w j b u) | inr k ↦ inr (omega arith) ]), l)
 
+    -- the early events by number are an order
     olds_order : IsOrder by plan m.finished olds
     olds_order = filter_order by plan m.finished early rises (λ f i t. (early_parts f t).0) (λ f g i t j b. olds_closed f g i t j b (cases_Bool (is_done m.finished g)))
 
+    -- what was done in front of a fresh event is done in front of it here
     new_waited : (front : List Event) (rest : List Event) → whole ≡ front ++ rest → (f : Event) → In f plan → (is_done m.finished f ≡ true) ⊎ (is_done m.finished f ≡ false) → (nat_lt f.no.0 m.next ≡ true) ⊎ (nat_lt f.no.0 m.next ≡ false)
         → is_done (m.finished ++ front) f ≡ true → is_done (m.finished ++ (olds ++ filter fresh front)) f ≡ true
     new_waited front rest h f i (inl t) l w = done_left m.finished (olds ++ filter fresh front) f t
@@ -216,6 +232,7 @@ module _ (m : Fleet) (r : ℕ) (route : List CellNo) (is_site : IsSite m.site) (
             let same : g.0.no.0 ≡ f.no.0 = g.2 in
             done_right olds (filter fresh front) f (sym (done_same (filter fresh front) g.0 f same) ∙ done_in (filter fresh front) (In-filter fresh front g.1 (not_from_false (nat_lt g.0.no.0 m.next) (rw same s))))
 
+    -- each fresh event that came is ready here
     new_ready : (front : List Event) (f : Event) (rest : List Event) → whole ≡ front ++ f ∷ rest → fresh f ≡ true → IsReady by plan (m.finished ++ (olds ++ filter fresh front)) f
     new_ready front f rest h t = record {
       planned = ready.planned;
@@ -231,6 +248,7 @@ module _ (m : Fleet) (r : ℕ) (route : List CellNo) (is_site : IsSite m.site) (
         parts : (is_done m.finished f ≡ false) × (is_done front f ≡ false)
         parts = done_parts m.finished front f ready.undone
 
+    -- the order goes on over one more event that came, which is fresh or not
     news_step : (front : List Event) (f : Event) (rest : List Event) (b : Bool) → whole ≡ front ++ f ∷ rest → fresh f ≡ b → IsOrder by plan (m.finished ++ (olds ++ filter fresh (front ++ f ∷ []))) (filter fresh rest)
         → IsOrder by plan (m.finished ++ (olds ++ filter fresh front)) (cond b (f ∷ filter fresh rest) (filter fresh rest))
     news_step front f rest true h t more = (
@@ -243,6 +261,7 @@ module _ (m : Fleet) (r : ℕ) (route : List CellNo) (is_site : IsSite m.site) (
         subst (λ done. IsOrder by plan done (filter fresh rest))
         (ap (λ es. m.finished ++ (olds ++ es)) (filter-append fresh front (f ∷ []) ∙ (ap (λ es. filter fresh front ++ es) (filter_out fresh f [] t) ∙ append-nil (filter fresh front)))) more
 
+    -- the fresh events that came are an order behind the early ones
     news_order : (front rest : List Event) → whole ≡ front ++ rest → IsOrder by plan (m.finished ++ (olds ++ filter fresh front)) (filter fresh rest)
     news_order front [] h = tt
     news_order front (f ∷ rest) h = news_step front f rest (fresh f) h refl (news_order (front ++ f ∷ []) rest (h ∙ sym (append_assoc front (f ∷ []) rest)))
@@ -253,13 +272,16 @@ module _ (m : Fleet) (r : ℕ) (route : List CellNo) (is_site : IsSite m.site) (
     last_fresh : filter fresh whole ≡ filter fresh before ++ e ∷ []
     last_fresh = filter-append fresh before (e ∷ []) ∙ ap (λ es. filter fresh before ++ es) (filter_in fresh e [] (not_from_false (nat_lt e.no.0 m.next) (le-ltb e.no.0 m.next (high e in_news))))
 
+    -- the early events, the fresh ones that came and the acquire are an order
     other_order : IsOrder by plan m.finished (came ++ e ∷ [])
     other_order = subst (λ es. IsOrder by plan m.finished es) (ap (λ es. olds ++ es) last_fresh ∙ sym (append_assoc olds (filter fresh before) (e ∷ [])))
         (orders.IsOrder-append by plan m.finished olds (filter fresh whole) olds_order (subst (λ es. IsOrder by plan (m.finished ++ es) (filter fresh whole)) (append-nil olds) (news_order [] whole refl)))
 
+    -- the release is of the plan before
     x_low : x.no.0 < m.next
     x_low = good.next x x_planned
 
+    -- the release has not come in this order
     x_waits : is_done (m.finished ++ came) x ≡ false
     x_waits = done_neither m.finished came x parts.0 (done_neither olds (filter fresh before) x
         (done_none olds x (λ g i n. not_early g n (early_parts g (In_unfilter early plan i).1).2))
@@ -275,10 +297,12 @@ module _ (m : Fleet) (r : ℕ) (route : List CellNo) (is_site : IsSite m.site) (
         not_early g n (inl w) = elim (done_cases before (e ∷ []) x (sym (done_same whole g x n) ∙ w)) [ inl t ↦ both_ways (is_done before x) parts.1 t | inr t ↦ not_last t ]
         not_early g n (inr l) = omega arith
 
+    -- all earlier events of its robot have
     x_next : (g : Event) → In g plan → g.robot.0 ≡ x.robot.0 → g.no.0 < x.no.0 → (is_done m.finished g ≡ true) ⊎ (is_done m.finished g ≡ false) → is_done (m.finished ++ came) g ≡ true
     x_next g i s l (inl t) = done_left m.finished came g t
     x_next g i s l (inr u) = let k = x_low in done_right m.finished came g (done_left olds (filter fresh before) g (done_in olds (In-filter early plan i (early_from g u (omega arith) (inr l)))))
 
+    -- so the order is not legal, and there is no such acquire
     pub not_waiting : ⊥
     not_waiting = free_of (replay start done) e c kind placed.1 q d x_robot held conflict
       where

@@ -22,7 +22,8 @@ use Rattle.fleet_model.specs.Journals.{turn_at, call_of, IsJournal, state_after}
 use Rattle.fleet_model.proofs.Ends.{merged_end, route_still}
 use Rattle.fleet_model.proofs.Grown.{merge_good}
 use Rattle.fleet_model.proofs.Accepted.{Change, Grew, Kept, Dropped, Cut, Did, changed, CanChange, Accepts, accepts}
-use Rattle.fleet_model.proofs.Assumed.{steps_short, withdrawn_good, withdrawn_end}
+use Rattle.fleet_model.proofs.StepCounts.{steps_few}
+use Rattle.fleet_model.proofs.Withdraw.{withdrawn_good, withdrawn_end}
 use Rattle.fleet_model.proofs.Orders as orders
 
 pub pending_cases : (ps : List (Option (List CellNo))) (s r : ℕ) (x : Option (List CellNo)) (y : List CellNo) → get_or (set ps s x) r None ≡ Some y → ((s ≡ r) × (x ≡ Some y)) ⊎ ((s ≡ r → ⊥) × (get_or ps r None ≡ Some y))
@@ -48,7 +49,7 @@ pub changed_plan : (s : State) → IsSite s.fleet.site → IsGood s → (r : ℕ
 changed_plan s is_site good r (Grew route) can = merge_good s.fleet r can.0.0 route is_site good.plan can.0.1 can.1 can.2
 changed_plan s is_site good r (Kept route) can = good.plan
 changed_plan s is_site good r Dropped can = good.plan
-changed_plan s is_site good r Cut can = withdrawn_good s.fleet r is_site good.plan
+changed_plan s is_site good r Cut can = withdrawn_good s.fleet r good.plan
 changed_plan s is_site good r (Did e) can = report_good s.fleet e good.plan can.1
 
 -- the routes of the others stay legal where their ends stay
@@ -65,7 +66,7 @@ pub changed_routes : (s : State) → IsGood s → (r : ℕ) (c : Change) → Can
 changed_routes s good r (Grew new) can q route p = others_still s good (merged s.fleet r new) r None refl (merged_end s.fleet r new) (none_new (merged s.fleet r new) r) q route p
 changed_routes s good r (Kept new) can q route p = others_still s good s.fleet r (Some new) refl (λ k e. refl) (λ other e. subst (λ x. IsRoute s.fleet r x) (same_Some new other e) can.1) q route p
 changed_routes s good r Dropped can q route p = others_still s good s.fleet r None refl (λ k e. refl) (none_new s.fleet r) q route p
-changed_routes s good r Cut can q route p = others_still s good (withdrawn s.fleet (removable_tail s.fleet r)) r None refl (withdrawn_end s.fleet r) (none_new (withdrawn s.fleet (removable_tail s.fleet r)) r) q route p
+changed_routes s good r Cut can q route p = others_still s good (withdrawn s.fleet (removable_tail s.fleet r)) r None refl (λ k e. withdrawn_end s.fleet r k good.plan e) (none_new (withdrawn s.fleet (removable_tail s.fleet r)) r) q route p
 changed_routes s good r (Did e) can q route p = let old = good.routes q route p in record { long = old.long; short = old.short; linked = old.linked; begins = old.begins }
 
 changed_places : (s : State) → IsGood s → (r : ℕ) (c : Change) → length (changed s r c).pending ≡ length (changed s r c).fleet.starts
@@ -76,7 +77,7 @@ changed_places s good r Cut = length-set s.pending r None ∙ good.places
 changed_places s good r (Did e) = good.places
 
 changed_numbers : (s : State) → IsSite s.fleet.site → IsGood s → (r : ℕ) (c : Change) → CanChange s r c → (changed s r c).fleet.next ≤ (changed s r c).fleet.first + 7161 * (s.count + 1)
-changed_numbers s is_site good r (Grew route) can = let n = steps_short s.fleet.site route is_site can.1.short in let old = good.numbers in omega arith
+changed_numbers s is_site good r (Grew route) can = let n = steps_few s.fleet.site is_site route can.1.short in let old = good.numbers in omega arith
 changed_numbers s is_site good r (Kept route) can = let old = good.numbers in omega arith
 changed_numbers s is_site good r Dropped can = let old = good.numbers in omega arith
 changed_numbers s is_site good r Cut can = let old = good.numbers in omega arith

@@ -28,6 +28,7 @@ pub record AreAtOdds (site : Site) (j k : Kind) : Type 0 where
   pub gives : k ≡ Release given
   pub conflict : in_conflict site taken given ≡ true
 
+-- what clashes is an acquire and a release that conflict
 pub at_odds : (site : Site) (j k : Kind) → clashes site j k ≡ true → AreAtOdds site j k
 at_odds site (Acquire c) (Release d) h = record { taken = c; given = d; takes = refl; gives = refl; conflict = h }
 at_odds site (Acquire c) (Acquire d) h = absurd (both_ways false refl h)
@@ -35,6 +36,7 @@ at_odds site (Acquire c) (Move a b) h = absurd (both_ways false refl h)
 at_odds site (Move a b) k h = absurd (both_ways false refl h)
 at_odds site (Release c) k h = absurd (both_ways false refl h)
 
+-- what an event waits for is a conflicting release by another robot
 pub awaited_parts : (site : Site) (e f : Event) → is_awaited site e f ≡ true → (f.robot.0 ≢ e.robot.0) × AreAtOdds site e.kind f.kind
 awaited_parts site e f h =
     let a = and_parts (nat_lt f.no.0 e.no.0) (not (f.robot.0 == e.robot.0) && clashes site e.kind f.kind) h in
@@ -48,6 +50,7 @@ module _ (m : Fleet) (r : ℕ) (route : List CellNo) (is_site : IsSite m.site) (
   abbrev plan : List Event
   plan = m.plan ++ news
 
+  -- an event with a high number is of the route
   is_new : (e : Event) → In e plan → m.next ≤ e.no.0 → In e news
   is_new e i l = elim (In-append_cases m.plan news i) [ inl j ↦ (let h = good.next e j in absurd (omega arith)) | inr j ↦ j ]
 
@@ -59,6 +62,7 @@ module _ (m : Fleet) (r : ℕ) (route : List CellNo) (is_site : IsSite m.site) (
     abbrev by : Event → Event → Type 0
     by e f = IsBehindBy m pairs e f
 
+    -- each order that a safe insertion allows is allowed by the merge
     pub least : (order : List Event) → IsAllowedBy m news pairs order → IsAllowed (merged m r route) order
     least order h = orders.order_by_place (IsBehind m.site) plan m.finished order at_place
       where
@@ -96,6 +100,7 @@ module _ (m : Fleet) (r : ℕ) (route : List CellNo) (is_site : IsSite m.site) (
   pairs_of [] = []
   pairs_of (e ∷ es) = map (λ (f : Event). (f, e)) (filter undone (after m.site m.plan e)) ++ pairs_of es
 
+  -- each release that a new event still waits for is paired with it
   pairs_have : (es : List Event) (e f : Event) → In e es → In f m.plan → is_awaited m.site e f ≡ true → is_done m.finished f ≡ false → In (f, e) (pairs_of es)
   unfolding pairs_of
   pairs_have [] e f i p a u = elim i [ ]
@@ -109,6 +114,7 @@ module _ (m : Fleet) (r : ℕ) (route : List CellNo) (is_site : IsSite m.site) (
     pub undone_then : is_done m.finished f ≡ false
     pub new : In e es
 
+  -- what is paired is an unfinished event of the plan with a new one
   pairs_are : (es : List Event) (f e : Event) → In (f, e) (pairs_of es) → IsPaired es f e
   unfolding pairs_of
   pairs_are [] f e i = elim i [ ]
@@ -129,9 +135,11 @@ module _ (m : Fleet) (r : ℕ) (route : List CellNo) (is_site : IsSite m.site) (
   abbrev all_pairs : Insertion
   all_pairs = pairs_of news
 
+  -- these pairs are an insertion
   all_insertion : IsInsertion m news all_pairs
   all_insertion = record { planned = λ f e i. (pairs_are news f e i).planned; undone = λ f e i. (pairs_are news f e i).undone_then; new = λ f e i. (pairs_are news f e i).new }
 
+  -- each order that this insertion allows is allowed by the merge
   all_allowed : (order : List Event) → IsAllowedBy m news all_pairs order → IsAllowed (merged m r route) order
   all_allowed order h = orders.order_by_place (IsBehind m.site) plan m.finished order at_place
     where

@@ -8,7 +8,7 @@ use Rattle.fleet_base.specs.declared.numbers.Event.{Event}
 use Rattle.fleet_base.specs.declared.numbers.Kind.{Kind}
 use Rattle.fleet_base.specs.declared.numbers.Kind.TheVariants.{Acquire, Move, Release}
 use Rattle.fleet_model.specs.Lists.{In, Begins}
-use Rattle.fleet_model.specs.Sites.{in_conflict, Site, IsSite}
+use Rattle.fleet_model.specs.Sites.{in_conflict, Site}
 use Rattle.fleet_model.specs.Replays.{Spots, CanDo, CanDoAll, IsFree, IsLegal, opening, replay}
 use Rattle.fleet_model.specs.Plans.{Fleet, own, kinds, is_done, clashes, is_awaited, IsBehind, IsReady, IsOrder, IsSafe}
 use Rattle.fleet_model.specs.Good.{IsAscending, IsGoodPlan, Opens, Closes}
@@ -18,24 +18,28 @@ use Rattle.fleet_model.proofs.Claims.{conflict_symmetric}
 use Rattle.fleet_model.proofs.Alone as alone
 use Rattle.fleet_model.proofs.Orders as orders
 
+-- an acquire stands behind a release of a conflicting claim with a smaller number by another robot
 pub awaited_from : (site : Site) (e f : Event) (c d : ClaimNo) → e.kind ≡ Acquire c → f.kind ≡ Release d → f.robot.0 ≢ e.robot.0 → f.no.0 < e.no.0 → in_conflict site c d ≡ true → is_awaited site e f ≡ true
 awaited_from site e f c d he hf robots numbers conflict =
     and_from (nat_lt f.no.0 e.no.0) (not (f.robot.0 == e.robot.0) && clashes site e.kind f.kind) (lt-ltb f.no.0 e.no.0 numbers)
     (and_from (not (f.robot.0 == e.robot.0)) (clashes site e.kind f.kind) (not_from_false (f.robot.0 == e.robot.0) (ne_eqb f.robot.0 e.robot.0 robots)) (rw (he, hf) conflict))
 
+-- an event comes behind each earlier one of its robot
 pub own_behind : (site : Site) (e f : Event) → f.robot.0 ≡ e.robot.0 → f.no.0 < e.no.0 → IsBehind site e f
 own_behind site e f h l = inl (h, l)
 
-module _ (m : Fleet) (good : IsGoodPlan m) (is_site : IsSite m.site) (able : (r : ℕ) → CanDoAll m.site (opening m.site m.starts r) (kinds r m.plan)) where
+module _ (m : Fleet) (good : IsGoodPlan m) (able : (r : ℕ) → CanDoAll m.site (opening m.site m.starts r) (kinds r m.plan)) where
   abbrev start : Spots
   start = opening m.site m.starts
 
   abbrev Kept : List Event → Type 0
   Kept done = orders.IsKept (IsBehind m.site) m.plan done
 
+  -- what is done of the plan is among the events that came before
   done_before : (before : List Event) → Kept before → (x : Event) → In x m.plan → is_done before x ≡ true → In x before
   done_before before kept x p h = orders.In_done (IsBehind m.site) m.plan (from_one m good) (own_behind m.site) before kept x p h
 
+  -- the robot of a ready event is able to do it
   can : (before : List Event) (e : Event) → Kept before → IsReady (IsBehind m.site) m.plan before e → CanDo m.site (replay start before e.robot.0) e.kind
   can before e kept ready =
       let r : ℕ = e.robot.0 in
@@ -50,6 +54,7 @@ module _ (m : Fleet) (good : IsGoodPlan m) (is_site : IsSite m.site) (able : (r 
   released before e kept ready q c d low apart k conflict x =
       In_own q before (done_before before kept x.event x.planned (ready.waited x.event x.planned (inr (awaited_from m.site e x.event c d k x.kind (λ h. apart (sym x.robot ∙ h)) x.below conflict)))) x.robot
 
+  -- no other robot holds what conflicts with the claim of a ready acquire
   clash : (before : List Event) (e : Event) → Kept before → IsReady (IsBehind m.site) m.plan before e → (c : ClaimNo) → e.kind ≡ Acquire c → (q : ℕ) (d : ClaimNo) → q ≢ e.robot.0
       → (replay start before q).holds d ≡ true → in_conflict m.site c d ≡ true → ⊥
   clash before e kept ready c k q d apart holds conflict =
@@ -78,6 +83,7 @@ module _ (m : Fleet) (good : IsGoodPlan m) (is_site : IsSite m.site) (able : (r 
           let placed : In t.0 before × (t.0.robot.0 ≡ q) = own_In q before t.1.place in
           from_event t.0 t.1 (good.uses r q c d e.no.0 t.0.no.0 (λ h. apart (sym h)) conflict mine (inr (t.0, kept.planned t.0 placed.0, placed.1, t.1.kind, refl)))
 
+  -- a ready event meets no conflicting claim
   free : (before : List Event) (e : Event) → Kept before → IsReady (IsBehind m.site) m.plan before e → (k : Kind) → e.kind ≡ k → IsFree m.site (replay start before) e.robot.0 k
   free before e kept ready (Acquire c) h = λ q d apart holds conflict. clash before e kept ready c h q d apart holds conflict
   free before e kept ready (Move a b) h = tt
@@ -94,5 +100,6 @@ module _ (m : Fleet) (good : IsGoodPlan m) (is_site : IsSite m.site) (able : (r 
           let ready : IsReady (IsBehind m.site) m.plan before e = (orders.IsOrder_rest (IsBehind m.site) m.plan [] before (e ∷ behind) whole).0 in
           (can before e kept ready, free before e kept ready e.kind refl)
 
+  -- whatever is reported in an allowed order is legal
   pub safe : IsSafe m
   safe order h = order_legal (m.finished ++ order) (orders.IsOrder-append (IsBehind m.site) m.plan [] m.finished order good.finished h)

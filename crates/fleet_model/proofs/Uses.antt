@@ -21,6 +21,7 @@ released_now (Release c) s d h g = go (and_cases (not (c.0 == d.0)) (s.holds d) 
     go (inl e) = ap (λ x. Release x) (same_claim c d (not-false (c.0 == d.0) e))
     go (inr e) = absurd (both_ways (s.holds d) e h)
 
+-- a claim that is held before these and not behind them is released by one of them
 pub closed_from : (s : Spot) (es : List Event) (d : ClaimNo) → s.holds d ≡ true → (after_kinds s (map (λ (e : Event). e.kind) es)).holds d ≡ false → (x : Event) × In x es × (x.kind ≡ Release d)
 closed_from s [] d h g = absurd (both_ways (s.holds d) g h)
 closed_from s (e ∷ es) d h g = go (cases_Bool ((after_kind e.kind s).holds d)) (λ t. closed_from (after_kind e.kind s) es d t g)
@@ -29,6 +30,7 @@ closed_from s (e ∷ es) d h g = go (cases_Bool ((after_kind e.kind s).holds d))
     go (inl t) ih = ((ih t).0, there (ih t).1, (ih t).2)
     go (inr f) ih = (e, here refl, released_now e.kind s d h f)
 
+-- a claim that one of these acquires and that is not held behind them is released by a later one
 pub closed_after : (s : Spot) (low : ℕ) (es : List Event) (d : ClaimNo) (a : Event) → IsAscending low es → In a es → a.kind ≡ Acquire d → (after_kinds s (map (λ (e : Event). e.kind) es)).holds d ≡ false
     → (x : Event) × In x es × (x.kind ≡ Release d) × (a.no.0 < x.no.0)
 closed_after s low [] d a h m k g = elim m [ ]

@@ -51,11 +51,13 @@ other c d cs h g = false_from_ne_true (c.0 == d.0) (λ e. both_ways (has_claim c
 has_first : (c : ClaimNo) (cs : List ClaimNo) → has_claim (c ∷ cs) c ≡ true
 has_first c cs = or_left (c.0 == c.0) (has_claim cs c) (eq-eqb c.0 c.0 refl)
 
+-- a robot can acquire claims that it does not hold
 can_acquire : (site : Site) (s : Spot) (cs : List ClaimNo) → IsDistinct cs → ((d : ClaimNo) → has_claim cs d ≡ true → s.holds d ≡ false) → CanDoAll site s (acquires cs)
 can_acquire site s [] h g = tt
 can_acquire site s (c ∷ cs) h g =
     (g c (has_first c cs), can_acquire site (after_kind (Acquire c) s) cs h.1 (λ d m. rw (other c d cs h.0 m) (g d (or_right (c.0 == d.0) (has_claim cs d) m))))
 
+-- a robot can release claims that it holds
 can_release : (site : Site) (s : Spot) (cs : List ClaimNo) → IsDistinct cs → ((d : ClaimNo) → has_claim cs d ≡ true → s.holds d ≡ true) → CanDoAll site s (releases cs)
 can_release site s [] h g = tt
 can_release site s (c ∷ cs) h g =
@@ -81,10 +83,12 @@ pub has_claim-without : (xs ys : List ClaimNo) (d : ClaimNo) → has_claim (with
 has_claim-without [] ys d = refl
 has_claim-without (x ∷ xs) ys d = without_step x d xs ys (has_claim ys x) refl (has_claim-without xs ys d)
 
+-- with or without one more claim that is not among them no claim comes twice
 distinct_step : (x : ClaimNo) (zs : List ClaimNo) (b : Bool) → has_claim zs x ≡ false → IsDistinct zs → IsDistinct (cond b (x ∷ zs) zs)
 distinct_step x zs true h g = (h, g)
 distinct_step x zs false h g = g
 
+-- what is left of a list that names no claim twice names none twice
 IsDistinct-without : (xs ys : List ClaimNo) → IsDistinct xs → IsDistinct (without xs ys)
 IsDistinct-without [] ys h = tt
 IsDistinct-without (x ∷ xs) ys h = distinct_step x (without xs ys) (not (has_claim ys x)) (rw (has_claim-without xs ys x, h.0) refl) (IsDistinct-without xs ys h.1)
@@ -139,6 +143,7 @@ module _ (site : Site) (is_site : IsSite site) where
       left : (d : ClaimNo) → (not (has_claim old d) && s1.holds d) ≡ has_claim (footprint_of site b) d
       left d = rw (has_claim-without (footprint_of site a) (footprint_of site b) d, holds1 d) (step_leaves (has_claim (footprint_of site a) d) (has_claim (footprint_of site b) d))
 
+  -- a walk is legal for a robot alone, and takes it to the last cell with that footprint
   pub steps_stand : (s : Spot) (a : CellNo) (bs : List CellNo) → IsStanding site s a → CanDoAll site s (steps_from site a bs) × IsStanding site (after_kinds s (steps_from site a bs)) (last_cell a bs)
   steps_stand s a [] h = (tt, h)
   steps_stand s a (b ∷ bs) h =
@@ -146,9 +151,11 @@ module _ (site : Site) (is_site : IsSite site) where
       let more = steps_stand (after_kinds s (step site a b)) b bs one.1 in
       (CanDoAll-append site s (step site a b) (steps_from site b bs) one.0 more.0, rw (after_kinds-append s (step site a b) (steps_from site b bs)) more.1)
 
+  -- a robot that stands in a cell with its footprint stands there
   pub start_stands : (a : CellNo) → IsStanding site (standing site a) a
   start_stands a = record { cell = refl; holds = λ d. refl }
 
+  -- a robot can do what it is planned to do from its start
   pub walk_able : (o : Option CellNo) (ks : List Kind) → AreSteps site o ks → CanDoAll site (start_at site o) ks
   walk_able None ks h = rw h tt
   walk_able (Some a) ks h = rw h.2 (steps_stand (standing site a) a h.0 (start_stands a)).0
@@ -160,6 +167,7 @@ module _ (site : Site) (is_site : IsSite site) where
       let stands : IsStanding site (after_kinds (standing site a) ks) (last_cell a h.0) = rw h.2 (steps_stand (standing site a) a h.0 (start_stands a)).1 in
       rw stands.cell (sym (stands.holds d) ∙ held)
 
+  -- behind its walk a robot stands in its cell with that footprint
   pub walk_stands : (a : CellNo) (ks : List Kind) → AreSteps site (Some a) ks → IsStanding site (after_kinds (standing site a) ks) (after_kinds (standing site a) ks).cell
   walk_stands a ks h =
       let stands : IsStanding site (after_kinds (standing site a) ks) (last_cell a h.0) = rw h.2 (steps_stand (standing site a) a h.0 (start_stands a)).1 in

@@ -9,7 +9,7 @@ use Rattle.fleet_base.specs.declared.numbers.Kind.{Kind}
 use Rattle.fleet_base.specs.declared.numbers.Kind.TheVariants.{Acquire, Move, Release}
 use Rattle.fleet_model.specs.Lists.{In, least}
 use Rattle.fleet_model.specs.Sites.{Site, in_conflict, footprint_of, has_claim, steps, IsWalk, rest_points, moved_to}
-use Rattle.fleet_model.specs.Replays.{IsLegal, opening, replay}
+use Rattle.fleet_model.specs.Replays.{IsLegal, opening, replay, AreSteps}
 
 -- robots on one plan: all events that were merged and not withdrawn, in order of number; those that were reported, in order of report; the number of the first event and that of the next
 pub record Fleet : Type 0 where
@@ -157,6 +157,14 @@ is_removable m tail = list_all (λ f. not (is_done m.finished f) && not (list_an
 abbrev pub removable_tail : Fleet → ℕ → List Event
 removable_tail m r =
     unwrap_or (find (is_removable m) (map (λ n. drop n (own r m.plan)) (rests_of m.site (slice_get m.starts r) (kinds r m.plan)))) []
+
+-- a list of robot r's events that may be removed: it is the last of them, in front of it stand whole steps of its walk, none of it is finished, and no other robot's event stands behind one of it
+pub record IsRemovableTail (m : Fleet) (r : ℕ) (tail : List Event) : Type 0 where
+  pub front : List Event
+  pub splits : own r m.plan ≡ front ++ tail
+  pub rests : AreSteps m.site (slice_get m.starts r) (map (λ e. e.kind) front)
+  pub undone : (f : Event) → In f tail → is_done m.finished f ≡ false
+  pub unawaited : (e f : Event) → In e m.plan → In f tail → is_awaited m.site e f ≡ false
 
 -- the plan without these events
 abbrev pub withdrawn : Fleet → List Event → Fleet

@@ -4,3 +4,5 @@
 #![tactic(auto)]
 
 pub mod cycle_laws;
+pub mod plan_laws;
+pub mod route_laws;
