@@ -33,3 +33,4 @@ pub mod Counts
 pub mod Accepted
 pub mod Kept
 pub mod Bindings
+pub mod Soundness
