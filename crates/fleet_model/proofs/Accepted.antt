@@ -94,7 +94,7 @@ pub record Accepts (s : State) (r : ℕ) (entry : Entry) (after : State) : Type 
   pub tells : Tells s r change entry.act
 
 -- none of these is there
-abbrev AllNone : {A : Type 0} → List (Option A) → Type 0
+abbrev pub AllNone : {A : Type 0} → List (Option A) → Type 0
 AllNone [] = Unit {0}
 AllNone (o ∷ os) = (o ≡ None) × AllNone os
 
@@ -108,17 +108,17 @@ unless_cases None s step entry h = (refl, h, refl)
 unless_cases (Some e) s step entry h = absurd (cc)
 
 -- a call that adds an entry wasn't refused
-record IsAccepted {A E : Type 0} (refusals : List (Option E)) (s : State) (step : Step A E) (entry : Entry) : Type 0 where
-  none : AllNone refusals
-  told : step.entry ≡ Some entry
-  is : unless refusals s step ≡ step
+pub record IsAccepted {A E : Type 0} (refusals : List (Option E)) (s : State) (step : Step A E) (entry : Entry) : Type 0 where
+  pub none : AllNone refusals
+  pub told : step.entry ≡ Some entry
+  pub is : unless refusals s step ≡ step
 
-unless_accepted : {A E : Type 0} (refusals : List (Option E)) (s : State) (step : Step A E) (entry : Entry) → (unless refusals s step).entry ≡ Some entry → IsAccepted refusals s step entry
+pub unless_accepted : {A E : Type 0} (refusals : List (Option E)) (s : State) (step : Step A E) (entry : Entry) → (unless refusals s step).entry ≡ Some entry → IsAccepted refusals s step entry
 unless_accepted refusals s step entry h =
     let u = unless_cases (first_some refusals) s step entry h in
     record { none = all_none refusals u.0; told = u.1; is = u.2 }
 
-when_none : {A : Type 0} (b : Bool) (x : A) → when b x ≡ None → b ≡ false
+pub when_none : {A : Type 0} (b : Bool) (x : A) → when b x ≡ None → b ≡ false
 when_none true x h = absurd (cc)
 when_none false x h = refl
 
@@ -126,7 +126,7 @@ map_none : {A B : Type 0} (f : A → B) (o : Option A) → option_map f o ≡ No
 map_none f None h = refl
 map_none f (Some x) h = absurd (cc)
 
-some_of : {A : Type 0} (o : Option A) → is_none o ≡ false → (x : A) × (o ≡ Some x)
+pub some_of : {A : Type 0} (o : Option A) → is_none o ≡ false → (x : A) × (o ≡ Some x)
 some_of None h = absurd (both_ways true h refl)
 some_of (Some x) h = (x, refl)
 
@@ -188,7 +188,7 @@ filter_length : (p : Event → Bool) (es : List Event) → length (filter p es) 
 filter_length p es = omega (arith, length-filter p es, count_by-le-length p es)
 
 -- what an accepted call's entry tells
-told : (r : ℕ) (act : Act) (entry : Entry) → Some (record { robot = record { 0 = r }; act = act }) ≡ Some entry → (entry.robot.0 ≡ r) × (entry.act ≡ act)
+pub told : (r : ℕ) (act : Act) (entry : Entry) → Some (record { robot = record { 0 = r }; act = act }) ≡ Some entry → (entry.robot.0 ≡ r) × (entry.act ≡ act)
 told r act entry h = let e = same_Some (record { robot = record { 0 = r }; act = act }) entry h in (ap (λ (x : Entry). x.robot.0) (sym e), ap (λ (x : Entry). x.act) (sym e))
 
 length_In : {A : Type 0} (xs : List A) (x : A) → In x xs → 1 ≤ length xs
@@ -306,7 +306,7 @@ accepts_retry s r entry good h = record {
     t : (entry.robot.0 ≡ r) × (entry.act ≡ Retried (first_of s))
     t = told r (Retried (first_of s)) entry is.told
 
-abbrev nothing : Unit {0}
+abbrev pub nothing : Unit {0}
 nothing = tt
 
 -- an accepted cancel
@@ -466,7 +466,7 @@ accepts_report s r n entry good h = go (next_event s.fleet r) refl
         }
 
 -- a look adds no entry
-no_entry : (s : State) (r : ℕ) (b : Bool) (refused : UnknownRobot) (entry : Entry) → (unless {A = Look} (when b refused ∷ []) s (record { answer = Ok (look_of s r); entry = None; after = s })).entry ≡ Some entry → ⊥
+pub no_entry : (s : State) (r : ℕ) (b : Bool) (refused : UnknownRobot) (entry : Entry) → (unless {A = Look} (when b refused ∷ []) s (record { answer = Ok (look_of s r); entry = None; after = s })).entry ≡ Some entry → ⊥
 no_entry s r true refused entry e = absurd (cc)
 no_entry s r false refused entry e = absurd (cc)
 

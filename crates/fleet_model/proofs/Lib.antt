@@ -34,3 +34,6 @@ pub mod Accepted
 pub mod Kept
 pub mod Bindings
 pub mod Soundness
+pub mod Reports
+pub mod Turns
+pub mod Proposals

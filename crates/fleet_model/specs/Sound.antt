@@ -38,6 +38,11 @@ abbrev pub IsDeferral : Act → Type 0
 IsDeferral (Deferred route cycle) = Unit {0}
 IsDeferral _ = ⊥
 
+-- the act is a withdrawal
+abbrev pub IsWithdrawal : Act → Type 0
+IsWithdrawal (Withdrawn removed end) = Unit {0}
+IsWithdrawal _ = ⊥
+
 -- no member cancels, withdraws or replans
 abbrev pub IsTrueTo : List ℕ → List Entry → Type 0
 IsTrueTo members journal = (entry : Entry) → In entry journal → In entry.robot.0 members → IsChange entry.act → ⊥

@@ -4,5 +4,6 @@
 #![tactic(auto)]
 
 pub mod cycle_laws;
+pub mod journal_laws;
 pub mod plan_laws;
 pub mod route_laws;
