@@ -2,3 +2,5 @@
 //!
 //! The definitions stand in `specs/`. Each law is the contract of a function with an empty body.
 #![tactic(auto)]
+
+pub mod examples;
