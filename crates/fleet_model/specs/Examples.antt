@@ -1,6 +1,6 @@
 -- Words for small runs: robots, cells, the sites of two examples, calls, answers, and what a state shows.
-use Rattle.std.specs.Prelude.{ℕ, ◌+◌, ◌-◌, true, List, [], ◌∷◌, ◌++◌, map, length, replicate, Ok, Err}
-use Rattle.std.specs.List.{range_with_len, flat_map}
+use Rattle.std.specs.Prelude.{ℕ, ◌+◌, ◌-◌, Bool, true, ◌&&◌, ◌==◌, List, [], ◌∷◌, ◌++◌, map, length, replicate, Option, Ok, Err}
+use Rattle.std.specs.List.{range_with_len, flat_map, list_any}
 use Rattle.fleet_base.specs.Lists.{robots_of}
 use Rattle.fleet_base.specs.declared.answers.Block.{Block}
 use Rattle.fleet_base.specs.declared.answers.Proposed.TheVariants as proposed
@@ -21,8 +21,9 @@ use Rattle.fleet_model.specs.Lists.{numbers_below}
 use Rattle.fleet_model.specs.Sites.{Site}
 use Rattle.fleet_model.specs.Replays.{opening, replay, held_claims}
 use Rattle.fleet_model.specs.Plans.{unfinished, awaited, cell_of}
+use Rattle.fleet_model.specs.Routes.{least_route}
 use Rattle.fleet_model.specs.States.{State, start_state}
-use Rattle.fleet_model.specs.Calls.{Call, Propose, Retry, Cancel, Withdraw, Replan, Report, LookAt, Answer, Proposes, Retries, Cancels, Withdraws, Replans, Reports}
+use Rattle.fleet_model.specs.Calls.{Call, Propose, Retry, Cancel, Withdraw, Replan, Report, LookAt, Answer, Proposes, Retries, Cancels, Withdraws, Replans, Reports, has_cell}
 
 -- Numbers.
 
@@ -120,9 +121,25 @@ closed_bypass = record {
   groups = alone 5;
 }
 
+-- the square: cells a b c d; links of cost 1 from a to b, a to c, b to d and c to d, and of cost 3 from a to d
+abbrev pub square : Site
+square = record {
+  links = (to b 1 ∷ to c 1 ∷ to d 3 ∷ []) ∷ (to d 1 ∷ []) ∷ (to d 1 ∷ []) ∷ [] ∷ [];
+  footprints = own_claims 4;
+  groups = alone 4;
+}
+
 -- robots in these cells of a site, with a cap of a million
 abbrev pub fleet_on : Site → List ℕ → State
 fleet_on site starts = start_state site (cells starts) 1000000
+
+-- the least route from a cell to a cell past these cells
+abbrev pub route_past : List ℕ → Site → ℕ → ℕ → Option (List CellNo)
+route_past avoided site from goal = least_route site (has_cell (cells (goal ∷ []))) (has_cell (cells avoided)) (cell from)
+
+-- the relation of the first number of each pair to the second
+abbrev pub relates : List (ℕ × ℕ) → ℕ → ℕ → Bool
+relates pairs r q = list_any (λ p. (p.0 == r) && (p.1 == q)) pairs
 
 -- Calls.
 
@@ -253,6 +270,14 @@ b_taken_over = both_by_b ++ reports_all r1 1 6 ++ reports r2 7 ∷ []
 -- r1 in a and r2 in c propose to b; then r1 proposes back to a, and r2 retries
 abbrev pub there_and_back : List (ℕ × Call)
 there_and_back = proposes r1 (a ∷ b ∷ []) ∷ proposes r2 (c ∷ b ∷ []) ∷ proposes r1 (b ∷ a ∷ []) ∷ retries r2 ∷ []
+
+-- r1 in a drives by b and back, twice; r2 in c then proposes to b
+abbrev pub twice_through_b : List (ℕ × Call)
+twice_through_b = proposes r1 (a ∷ b ∷ a ∷ []) ∷ proposes r1 (a ∷ b ∷ a ∷ []) ∷ proposes r2 (c ∷ b ∷ []) ∷ []
+
+-- r1 in a is kept from b by r2, which then drives to c; r1 retries
+abbrev pub b_left : List (ℕ × Call)
+b_left = proposes r1 (a ∷ b ∷ []) ∷ proposes r2 (b ∷ c ∷ []) ∷ reports_all r2 1 3 ++ retries r1 ∷ []
 
 -- the bypass with r1 in a, r2 in b and r3 in d
 abbrev pub three_at_bypass : State

@@ -4,4 +4,4 @@ use Rattle.fleet_model.proofs.examples.route_is_checked.Goals as goal
 
 pub returns : goal.returns
 unfolding links_from link_cost footprint_of in_conflict
-returns c = record { answers = refl; waits = refl }
+returns c = record { answers = refl; first_cause = refl; waits = refl }
