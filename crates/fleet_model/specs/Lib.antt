@@ -11,3 +11,4 @@ pub mod Journals
 pub mod Good
 pub mod Sound
 pub mod Examples
+pub mod Yard
