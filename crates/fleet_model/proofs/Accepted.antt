@@ -71,7 +71,7 @@ CanChange s r (Grew route) = HasStart s.fleet r × IsRoute s.fleet r route × Is
 CanChange s r (Kept route) = (pending_of s r ≡ None) × IsRoute s.fleet r route × ((c : ClaimNo) × (q : ℕ) × IsBlocker s.fleet r route c q)
 CanChange s r Dropped = (route : List CellNo) × (pending_of s r ≡ Some route)
 CanChange s r Cut = 1 ≤ length (removable_tail s.fleet r)
-CanChange s r (Did e) = (e.robot.0 ≡ r) × IsReady (IsBehind s.fleet.site) s.fleet.plan s.fleet.finished e
+CanChange s r (Did e) = (e.robot.0 ≡ r) × IsReady (IsBehind s.fleet.site.groups) s.fleet.plan s.fleet.finished e
 
 -- what the entry tells of the change
 abbrev pub Tells : State → ℕ → Change → Act → Type 0
@@ -199,7 +199,7 @@ pub same_number : (a b : EventNo) → a.0 ≡ b.0 → a ≡ b
 same_number a b p = λ i. record { 0 = p i }
 
 -- a report leaves one unfinished event less
-done_fewer : (m : Fleet) (e : Event) → IsReady (IsBehind m.site) m.plan m.finished e → length (unfinished (reported m (Some e))) + 1 ≤ length (unfinished m)
+done_fewer : (m : Fleet) (e : Event) → IsReady (IsBehind m.site.groups) m.plan m.finished e → length (unfinished (reported m (Some e))) + 1 ≤ length (unfinished m)
 done_fewer m e ready =
     filter_less (λ f. not (is_done (m.finished ++ e ∷ []) f)) (λ f. not (is_done m.finished f)) m.plan e
     (λ f i h. not_from_false (is_done m.finished f) (done_parts m.finished (e ∷ []) f (not-true (is_done (m.finished ++ e ∷ []) f) h)).0)
@@ -403,7 +403,7 @@ next_is m r e h = at_front (own r (unfinished m)) h
     at_front (f ∷ fs) h = (fs, ap (λ x. x ∷ fs) (same_Some f e h))
 
 -- the next event of a robot that waits for nothing is ready
-pub next_ready : (m : Fleet) (r : ℕ) (e : Event) → IsGoodPlan m → next_event m r ≡ Some e → waits_on m e ≡ None → (e.robot.0 ≡ r) × IsReady (IsBehind m.site) m.plan m.finished e
+pub next_ready : (m : Fleet) (r : ℕ) (e : Event) → IsGoodPlan m → next_event m r ≡ Some e → waits_on m e ≡ None → (e.robot.0 ≡ r) × IsReady (IsBehind m.site.groups) m.plan m.finished e
 next_ready m r e good h none = (of_robot.1, record { planned = planned.0; undone = not-true (is_done m.finished e) planned.1; waited = λ f i b. waited f i b (cases_Bool (is_done m.finished f)) })
   where
     undone : Event → Bool
@@ -424,14 +424,14 @@ next_ready m r e good h none = (of_robot.1, record { planned = planned.0; undone
     none_awaited : awaited m e ≡ []
     none_awaited = least_none (λ (x y : Event). nat_le y.no.0 x.no.0) (awaited m e) (map_none (λ (f : Event). f.no) (latest (awaited m e)) none)
 
-    waited : (f : Event) → In f m.plan → IsBehind m.site e f → (is_done m.finished f ≡ true) ⊎ (is_done m.finished f ≡ false) → is_done m.finished f ≡ true
+    waited : (f : Event) → In f m.plan → IsBehind m.site.groups e f → (is_done m.finished f ≡ true) ⊎ (is_done m.finished f ≡ false) → is_done m.finished f ≡ true
     waited f i b (inl d) = d
     waited f i (inl b) (inr d) =
         let left = In-filter undone m.plan i (not_from_false (is_done m.finished f) d) in
         let at = subst (λ es. In f es) first.1 (In_own r (unfinished m) left (b.0 ∙ of_robot.1)) in
         In_either at (λ k. let n = ap (λ (x : Event). x.no.0) k in let l = b.1 in absurd (omega arith)) (λ k. let n = low_bound (e.no.0 + 1) first.0 rises.1 k in let l = b.1 in absurd (omega arith))
     waited f i (inr b) (inr d) =
-        absurd (In-nil (subst (λ es. In f es) none_awaited (In-filter undone (after m.site m.plan e) (In-filter (is_awaited m.site e) m.plan i b) (not_from_false (is_done m.finished f) d))))
+        absurd (In-nil (subst (λ es. In f es) none_awaited (In-filter undone (after m.site.groups m.plan e) (In-filter (is_awaited m.site.groups e) m.plan i b) (not_from_false (is_done m.finished f) d))))
 
 -- an accepted report
 pub accepts_report : (s : State) (r : ℕ) (n : EventNo) (entry : Entry) → IsGood s → (report s r n).entry ≡ Some entry → Accepts s r entry (report s r n).after

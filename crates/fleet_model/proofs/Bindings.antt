@@ -38,7 +38,7 @@ deferred_still s n r q site starts p e h = record {
     start = h.blocker.start;
     starts = subst (λ x. slice_get x q ≡ Some h.blocker.start) starts h.blocker.starts;
     claim = h.blocker.claim;
-    conflict = subst (λ x. in_conflict x h.claim h.blocker.claim ≡ true) site h.blocker.conflict;
+    conflict = subst (λ x. in_conflict x.groups h.claim h.blocker.claim ≡ true) site h.blocker.conflict;
     holds = subst (λ x. has_claim (footprint_of x (end_of n.fleet q)) h.blocker.claim ≡ true) site (subst (λ a. has_claim (footprint_of s.fleet.site a) h.blocker.claim ≡ true) (sym e) h.blocker.holds);
   };
 }

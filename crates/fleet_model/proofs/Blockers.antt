@@ -76,7 +76,7 @@ kept_blocker m r route c q need other kept = go (cases_lt q (length m.starts))
     go : (q < length m.starts) ⊎ (length m.starts ≤ q) → IsBlocker m r route c q
     go (inl l) =
         let h = ap (λ o. is_kept_by m.site c o) (sym (ends_get m q l)) ∙ kept in
-        let d = any_In (λ (d : ClaimNo). in_conflict m.site c d) (footprint_of m.site (end_of m q)) h in
+        let d = any_In (λ (d : ClaimNo). in_conflict m.site.groups c d) (footprint_of m.site (end_of m q)) h in
         record {
           needed = acquired_In (steps m.site route) c need;
           other = eqb-false q r other;
@@ -92,7 +92,7 @@ kept_blocker m r route c q need other kept = go (cases_lt q (length m.starts))
 pub blocker_kept : (m : Fleet) (r : ℕ) (route : List CellNo) (c : ClaimNo) (q : ℕ) → IsBlocker m r route c q → is_kept_by m.site c (slice_get (ends m) q) ≡ true
 blocker_kept m r route c q b =
     ap (λ o. is_kept_by m.site c o) (ends_get m q (slice_get_within m.starts q b.start b.starts))
-    ∙ In_any (λ (d : ClaimNo). in_conflict m.site c d) (footprint_of m.site (end_of m q)) (has_In (footprint_of m.site (end_of m q)) b.claim b.holds) b.conflict
+    ∙ In_any (λ (d : ClaimNo). in_conflict m.site.groups c d) (footprint_of m.site (end_of m q)) (has_In (footprint_of m.site (end_of m q)) b.claim b.holds) b.conflict
 
 -- a blocker is a robot
 pub blocker_below : (m : Fleet) (r : ℕ) (route : List CellNo) (c : ClaimNo) (q : ℕ) → IsBlocker m r route c q → q < length m.starts

@@ -78,9 +78,9 @@ steps_acquire site a (b ∷ bs) c m =
     ]
 
 -- a cell whose footprint has a claim that another robot keeps at its end is shut
-pub shut_by : (m : Fleet) (r q : ℕ) (start a : CellNo) (c claim : ClaimNo) → q ≢ r → slice_get m.starts q ≡ Some start → In c (footprint_of m.site a) → has_claim (footprint_of m.site (end_of m q)) claim ≡ true → in_conflict m.site c claim ≡ true → is_shut_to m r a ≡ true
+pub shut_by : (m : Fleet) (r q : ℕ) (start a : CellNo) (c claim : ClaimNo) → q ≢ r → slice_get m.starts q ≡ Some start → In c (footprint_of m.site a) → has_claim (footprint_of m.site (end_of m q)) claim ≡ true → in_conflict m.site.groups c claim ≡ true → is_shut_to m r a ≡ true
 shut_by m r q start a c claim other starts i holds conflict =
-    let kept : is_kept_from m.site c (end_of m q) ≡ true = In_any (λ (d : ClaimNo). in_conflict m.site c d) (footprint_of m.site (end_of m q)) (has_claim_In (footprint_of m.site (end_of m q)) claim holds) conflict in
+    let kept : is_kept_from m.site c (end_of m q) ≡ true = In_any (λ (d : ClaimNo). in_conflict m.site.groups c d) (footprint_of m.site (end_of m q)) (has_claim_In (footprint_of m.site (end_of m q)) claim holds) conflict in
     let by : is_kept_by m.site c (slice_get (ends m) q) ≡ true = ap (is_kept_by m.site c) (end_at_start m q start starts) ∙ kept in
     let any = In_any (λ (d : ClaimNo). is_kept_by m.site d (slice_get (ends m) q)) (footprint_of m.site a) i by in
     In_any (λ (p : ℕ). not (p == r) && list_any (λ (d : ClaimNo). is_kept_by m.site d (slice_get (ends m) p)) (footprint_of m.site a)) (numbers_below (length m.starts))

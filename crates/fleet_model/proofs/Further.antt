@@ -4,6 +4,7 @@ use Rattle.std.proofs.lemmas.Bool.{cases_Bool, not-true, not_from_false}
 use Rattle.std.specs.Prelude.{slice_get}
 use Rattle.std.specs.List.{filter}
 use Rattle.fleet_base.specs.declared.numbers.CellNo.{CellNo}
+use Rattle.fleet_base.specs.declared.numbers.ClaimGroup.{ClaimGroup}
 use Rattle.fleet_base.specs.declared.numbers.ClaimNo.{ClaimNo}
 use Rattle.fleet_base.specs.declared.numbers.Event.{Event}
 use Rattle.fleet_model.specs.Lists.{In}
@@ -31,8 +32,8 @@ filter_swap p q [] = refl
 filter_swap p q (x ∷ xs) = filter_swap_step p q x (filter p xs) (filter q xs) (p x) (q x) refl refl (filter_swap p q xs)
 
 -- what an event waits for among the kept events is what it waits for in the plan and isn't done
-pub after_kept : (site : Site) (plan done : List Event) (e : Event) → after site (filter (undone done) plan) e ≡ filter (undone done) (after site plan e)
-after_kept site plan done e = filter_swap (is_awaited site e) (undone done) plan
+pub after_kept : (groups : List ClaimGroup) (plan done : List Event) (e : Event) → after groups (filter (undone done) plan) e ≡ filter (undone done) (after groups plan e)
+after_kept groups plan done e = filter_swap (is_awaited groups e) (undone done) plan
 
 -- an event is ready where it is kept and no kept event is to come before it
 pub ready_kept : (behind : Event → Event → Type 0) (plan done : List Event) (e : Event) → In e (filter (undone done) plan) → ((f : Event) → In f (filter (undone done) plan) → behind e f → ⊥) → IsReady behind plan done e
@@ -45,11 +46,11 @@ ready_kept behind plan done e i none =
     there_or f j b (inr n) = absurd (none f (In-filter (undone done) plan j (not_from_false (is_done done f) n)) b)
 
 -- a ready event stays ready under a merge
-pub ready_merged : (m : Fleet) (r : ℕ) (route : List CellNo) (e : Event) → IsGoodPlan m → IsReady (IsBehind m.site) m.plan m.finished e → IsReady (IsBehind m.site) (merged m r route).plan m.finished e
+pub ready_merged : (m : Fleet) (r : ℕ) (route : List CellNo) (e : Event) → IsGoodPlan m → IsReady (IsBehind m.site.groups) m.plan m.finished e → IsReady (IsBehind m.site.groups) (merged m r route).plan m.finished e
 ready_merged m r route e good ready = (allowed_still m r route (e ∷ []) good (ready, tt)).0
 
 -- a ready event stays ready when another event is reported
-pub ready_reported : (m : Fleet) (e f : Event) → f.no.0 ≢ e.no.0 → IsReady (IsBehind m.site) m.plan m.finished e → IsReady (IsBehind m.site) m.plan (m.finished ++ f ∷ []) e
+pub ready_reported : (m : Fleet) (e f : Event) → f.no.0 ≢ e.no.0 → IsReady (IsBehind m.site.groups) m.plan m.finished e → IsReady (IsBehind m.site.groups) m.plan (m.finished ++ f ∷ []) e
 ready_reported m e f other ready = record {
   planned = ready.planned;
   undone = done_neither m.finished (f ∷ []) e ready.undone (done_none (f ∷ []) e (λ g i k. In_either i (λ h. other (ap (λ (x : Event). x.no.0) (sym h) ∙ k)) (λ j. elim j [ ])));
@@ -57,7 +58,7 @@ ready_reported m e f other ready = record {
 }
 
 -- a ready event that isn't withdrawn stays ready
-pub ready_stays : (m : Fleet) (tail : List Event) (e : Event) → is_done tail e ≡ false → IsReady (IsBehind m.site) m.plan m.finished e → IsReady (IsBehind m.site) (withdrawn m tail).plan m.finished e
+pub ready_stays : (m : Fleet) (tail : List Event) (e : Event) → is_done tail e ≡ false → IsReady (IsBehind m.site.groups) m.plan m.finished e → IsReady (IsBehind m.site.groups) (withdrawn m tail).plan m.finished e
 ready_stays m tail e kept ready = record {
   planned = In-filter (undone tail) m.plan ready.planned (not_from_false (is_done tail e) kept);
   undone = ready.undone;
@@ -73,7 +74,7 @@ open_at_end m good r c h = go (held_since (opening m.site m.starts r) 1 (own r m
     go (inr t) = let o = own_In r m.plan t.1.place in (t.0.no.0, inr (t.0, o.0, o.1, t.1.kind, refl), λ high x. t.1.open_still x.event (In_own r m.plan x.planned x.robot) x.kind x.above)
 
 -- the footprints of two robots' ends don't conflict
-pub ends_apart : (m : Fleet) → IsSite m.site → IsGoodPlan m → (r q : ℕ) (a b : CellNo) (c d : ClaimNo) → r ≢ q → slice_get m.starts r ≡ Some a → slice_get m.starts q ≡ Some b → in_conflict m.site c d ≡ true
+pub ends_apart : (m : Fleet) → IsSite m.site → IsGoodPlan m → (r q : ℕ) (a b : CellNo) (c d : ClaimNo) → r ≢ q → slice_get m.starts r ≡ Some a → slice_get m.starts q ≡ Some b → in_conflict m.site.groups c d ≡ true
     → has_claim (footprint_of m.site (end_of m r)) c ≡ true → has_claim (footprint_of m.site (end_of m q)) d ≡ true → ⊥
 ends_apart m is_site good r q a b c d apart hr hq conflict hc hd =
     let x = open_at_end m good r c (end_held m is_site good r a c hr hc) in

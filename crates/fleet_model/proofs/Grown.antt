@@ -113,7 +113,7 @@ module _ (m : Fleet) (r : ℕ) (a : CellNo) (route : List CellNo) (is_site : IsS
   opens_cases q c n (inr o) = elim (In-append_cases m.plan news o.1) [ inl i ↦ inl (inr (o.0, i, o.2, o.3, o.4)) | inr i ↦ inr (o.0, i, o.2, o.3, o.4) ]
 
   -- a use of the plan before is closed in front of a conflicting claim of the route
-  behind_old : (q s : ℕ) (c d : ClaimNo) (n k : ℕ) → q ≢ s → in_conflict m.site d c ≡ true → Opens m q c n → New s d k → Closes after.plan q c n k
+  behind_old : (q s : ℕ) (c d : ClaimNo) (n k : ℕ) → q ≢ s → in_conflict m.site.groups d c ≡ true → Opens m q c n → New s d k → Closes after.plan q c n k
   behind_old q s c d n k apart conflict old new = go (cases_Bool ((after_kinds (opening m.site m.starts q) (kinds q m.plan)).holds c))
     where
       late : m.next ≤ new.0.no.0
@@ -140,9 +140,9 @@ module _ (m : Fleet) (r : ℕ) (a : CellNo) (route : List CellNo) (is_site : IsS
           record { event = x.event; planned = In-append_left m.plan news x.planned; robot = x.robot; kind = x.kind; above = x.above; below = omega (arith, late) }
 
   -- of two conflicting uses after the merge one is closed before the other opens
-  uses_kept : (q s : ℕ) (c d : ClaimNo) (n k : ℕ) → q ≢ s → in_conflict m.site c d ≡ true → Opens m q c n ⊎ New q c n → Opens m s d k ⊎ New s d k → Closes after.plan q c n k ⊎ Closes after.plan s d k n
+  uses_kept : (q s : ℕ) (c d : ClaimNo) (n k : ℕ) → q ≢ s → in_conflict m.site.groups c d ≡ true → Opens m q c n ⊎ New q c n → Opens m s d k ⊎ New s d k → Closes after.plan q c n k ⊎ Closes after.plan s d k n
   uses_kept q s c d n k apart conflict (inl x) (inl y) = elim (good.uses q s c d n k apart conflict x y) [ inl u ↦ inl (still q c n k u) | inr u ↦ inr (still s d k n u) ]
-  uses_kept q s c d n k apart conflict (inl x) (inr y) = inl (behind_old q s c d n k apart (conflict_symmetric m.site c d conflict) x y)
+  uses_kept q s c d n k apart conflict (inl x) (inr y) = inl (behind_old q s c d n k apart (conflict_symmetric m.site.groups c d conflict) x y)
   uses_kept q s c d n k apart conflict (inr x) (inl y) = inr (behind_old s q d c k n (λ e. apart (sym e)) conflict y x)
   uses_kept q s c d n k apart conflict (inr x) (inr y) = absurd (apart (sym x.2 ∙ (numbered-robot m.next r (steps m.site route) x.0 x.1 ∙ (sym (numbered-robot m.next r (steps m.site route) y.0 y.1) ∙ y.2))))
 

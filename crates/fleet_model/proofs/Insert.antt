@@ -58,7 +58,7 @@ module _ (m : Fleet) (r : ℕ) (route : List CellNo) (is_site : IsSite m.site) (
   -- what an event comes behind has a smaller number
   by_less : (e f : Event) → by e f → f.no.0 < e.no.0
   by_less e f (inl h) = h.1
-  by_less e f (inr (inl h)) = awaited_less m.site e f h.1
+  by_less e f (inr (inl h)) = awaited_less m.site.groups e f h.1
   by_less e f (inr (inr p)) = let h = high e (insertion.new f e p) in let l = good.next f (insertion.planned f e p) in omega arith
 
   -- an event comes behind each earlier one of its robot
@@ -66,7 +66,7 @@ module _ (m : Fleet) (r : ℕ) (route : List CellNo) (is_site : IsSite m.site) (
   by_own e f h l = inl (h, l)
 
   -- the orders of the plan before are orders beside the insertion
-  old_order : (done order : List Event) → IsOrder (IsBehind m.site) m.plan done order → IsOrder by plan done order
+  old_order : (done order : List Event) → IsOrder (IsBehind m.site.groups) m.plan done order → IsOrder by plan done order
   old_order done [] h = tt
   old_order done (e ∷ es) h =
       (record { planned = In-append_left m.plan news h.0.planned; undone = h.0.undone; waited = λ f i b. waited f (In-append_cases m.plan news i) b }, old_order (done ++ e ∷ []) es h.1)
@@ -82,7 +82,7 @@ module _ (m : Fleet) (r : ℕ) (route : List CellNo) (is_site : IsSite m.site) (
 
   -- what is finished has a low number
   finished_low : (e : Event) → In e plan → m.next ≤ e.no.0 → is_done m.finished e ≡ false
-  finished_low e i l = done_none m.finished e (λ g j n. let k = good.next g ((orders.order_kept (IsBehind m.site) m.plan (from_one m good) (λ x y a b. inl (a, b)) [] m.finished (orders.kept_none (IsBehind m.site) m.plan) good.finished).planned g j) in omega arith)
+  finished_low e i l = done_none m.finished e (λ g j n. let k = good.next g ((orders.order_kept (IsBehind m.site.groups) m.plan (from_one m good) (λ x y a b. inl (a, b)) [] m.finished (orders.kept_none (IsBehind m.site.groups) m.plan) good.finished).planned g j) in omega arith)
 
   abbrev Kept : List Event → Type 0
   Kept done = orders.IsKept by plan done
@@ -111,7 +111,7 @@ module _ (m : Fleet) (r : ℕ) (route : List CellNo) (is_site : IsSite m.site) (
       (λ e f i t j b. elim (cases_Bool (is_done m.finished f)) [ inl d ↦ inl d | inr d ↦ inr (not_from_false (is_done m.finished f) d, by_less e f b) ])
 
   -- no other robot holds what conflicts with an acquire that is free
-  free_of : (spots : Spots) (e : Event) (c : ClaimNo) → e.kind ≡ Acquire c → IsFree m.site spots e.robot.0 e.kind → (q : ℕ) (d : ClaimNo) → q ≢ e.robot.0 → (spots q).holds d ≡ true → in_conflict m.site c d ≡ true → ⊥
+  free_of : (spots : Spots) (e : Event) (c : ClaimNo) → e.kind ≡ Acquire c → IsFree m.site spots e.robot.0 e.kind → (q : ℕ) (d : ClaimNo) → q ≢ e.robot.0 → (spots q).holds d ≡ true → in_conflict m.site.groups c d ≡ true → ⊥
   free_of spots e c k free = let f : IsFree m.site spots e.robot.0 (Acquire c) = subst (λ x. IsFree m.site spots e.robot.0 x) k free in f
 
   -- a robot holds at its end what it holds there beside the blocked acquire
@@ -167,7 +167,7 @@ module _ (m : Fleet) (r : ℕ) (route : List CellNo) (is_site : IsSite m.site) (
 
   -- an acquire e of the newcomer that comes while a release x of a conflicting claim, which is to come before it, isn't done
   module _ (safe : IsSafeInsertion m news pairs) (before : List Event) (e : Event) (ordered : IsOrder by plan m.finished (before ++ e ∷ [])) (in_news : In e news) (c d : ClaimNo) (kind : e.kind ≡ Acquire c)
-      (x : Event) (x_planned : In x m.plan) (x_kind : x.kind ≡ Release d) (x_robot : x.robot.0 ≢ e.robot.0) (conflict : in_conflict m.site c d ≡ true) (waiting : is_done (m.finished ++ before) x ≡ false) where
+      (x : Event) (x_planned : In x m.plan) (x_kind : x.kind ≡ Release d) (x_robot : x.robot.0 ≢ e.robot.0) (conflict : in_conflict m.site.groups c d ≡ true) (waiting : is_done (m.finished ++ before) x ≡ false) where
     abbrev whole : List Event
     whole = before ++ e ∷ []
 

@@ -34,14 +34,14 @@ pending_cases (p ∷ ps) (suc s) zero x y h = inr (λ e. omega arith, h)
 pending_cases (p ∷ ps) (suc s) (suc r) x y h = elim (pending_cases ps s r x y h) [ inl a ↦ inl (ap (λ n. suc n) a.0, a.1) | inr a ↦ inr (λ e. a.0 (omega arith), a.1) ]
 
 -- a report of a ready event keeps a plan good
-pub report_good : (m : Fleet) (e : Event) → IsGoodPlan m → IsReady (IsBehind m.site) m.plan m.finished e → IsGoodPlan (record m { finished = m.finished ++ e ∷ [] })
+pub report_good : (m : Fleet) (e : Event) → IsGoodPlan m → IsReady (IsBehind m.site.groups) m.plan m.finished e → IsGoodPlan (record m { finished = m.finished ++ e ∷ [] })
 report_good m e good ready = record {
   numbers = good.numbers;
   first = good.first;
   opened = good.opened;
   next = good.next;
   walks = good.walks;
-  finished = orders.IsOrder-append (IsBehind m.site) m.plan [] m.finished (e ∷ []) good.finished (ready, tt);
+  finished = orders.IsOrder-append (IsBehind m.site.groups) m.plan [] m.finished (e ∷ []) good.finished (ready, tt);
   uses = good.uses;
 }
 
@@ -154,7 +154,7 @@ opening_good site starts pending next cap h = record {
     none None = refl
     none (Some a) = ([], tt, refl)
 
-    both : (r q : ℕ) (c d : ClaimNo) (a b : ℕ) → r ≢ q → in_conflict site c d ≡ true → Opens (opening_state site starts pending next cap).fleet r c a → Opens (opening_state site starts pending next cap).fleet q d b → ⊥
+    both : (r q : ℕ) (c d : ClaimNo) (a b : ℕ) → r ≢ q → in_conflict site.groups c d ≡ true → Opens (opening_state site starts pending next cap).fleet r c a → Opens (opening_state site starts pending next cap).fleet q d b → ⊥
     both r q c d a b ne conflict (inl x) (inl y) = h.apart r q c d ne conflict x.1 y.1
     both r q c d a b ne conflict (inr x) y = elim x.1 [ ]
     both r q c d a b ne conflict (inl x) (inr y) = elim y.1 [ ]

@@ -27,16 +27,16 @@ numbered-below n r (k ∷ ks) e m = In_either m (λ i. omega (arith, ap (λ (x :
 
 -- events with numbers from next on leave the orders of those with lower numbers
 pub order_still : (site : Site) (plan news done order : List Event) (next : ℕ) → ((e : Event) → In e plan → e.no.0 < next) → ((e : Event) → In e news → next ≤ e.no.0)
-    → IsOrder (IsBehind site) plan done order → IsOrder (IsBehind site) (plan ++ news) done order
+    → IsOrder (IsBehind site.groups) plan done order → IsOrder (IsBehind site.groups) (plan ++ news) done order
 order_still site plan news done [] next low high h = tt
 order_still site plan news done (e ∷ es) next low high h = (
   record { planned = In-append_left plan news h.0.planned; undone = h.0.undone; waited = λ f m b. old f b (In-append_cases plan news m) },
   order_still site plan news (done ++ e ∷ []) es next low high h.1,
 )
   where
-    old : (f : Event) → IsBehind site e f → In f plan ⊎ In f news → is_done done f ≡ true
+    old : (f : Event) → IsBehind site.groups e f → In f plan ⊎ In f news → is_done done f ≡ true
     old f b (inl m) = h.0.waited f m b
-    old f b (inr m) = let l = behind_less site e f b in let i = low e h.0.planned in let j = high f m in absurd (omega arith)
+    old f b (inr m) = let l = behind_less site.groups e f b in let i = low e h.0.planned in let j = high f m in absurd (omega arith)
 
 -- a merge removes no allowed order
 pub allowed_still : (m : Fleet) (r : ℕ) (route : List CellNo) (order : List Event) → IsGoodPlan m → IsAllowed m order → IsAllowed (merged m r route) order

@@ -35,7 +35,7 @@ none_in [] f = refl
 none_in (x ∷ xs) f = absurd (f x (here refl))
 
 -- a ready event is the first unfinished one of its robot
-pub ready_next : (m : Fleet) (e : Event) → IsGoodPlan m → IsReady (IsBehind m.site) m.plan m.finished e → next_event m e.robot.0 ≡ Some e
+pub ready_next : (m : Fleet) (e : Event) → IsGoodPlan m → IsReady (IsBehind m.site.groups) m.plan m.finished e → next_event m e.robot.0 ≡ Some e
 ready_next m e good ready = first (own e.robot.0 (unfinished m)) refl
   where
     undone : Event → Bool
@@ -58,13 +58,13 @@ ready_next m e good ready = first (own e.robot.0 (unfinished m)) refl
             absurd (both_ways (is_done m.finished f) (not-true (is_done m.finished f) f_left.1) (ready.waited f f_left.0 (inl (own_f.1, less)))))
 
 -- and waits for nothing
-pub ready_waits : (m : Fleet) (e : Event) → IsReady (IsBehind m.site) m.plan m.finished e → waits_on m e ≡ None
+pub ready_waits : (m : Fleet) (e : Event) → IsReady (IsBehind m.site.groups) m.plan m.finished e → waits_on m e ≡ None
 ready_waits m e ready = ap (λ es. option_map (λ (f : Event). f.no) (latest es)) (none_in (awaited m e) none)
   where
     none : (f : Event) → In f (awaited m e) → ⊥
     none f i =
-        let u = In_unfilter (λ g. not (is_done m.finished g)) (after m.site m.plan e) i in
-        let a = In_unfilter (is_awaited m.site e) m.plan u.0 in
+        let u = In_unfilter (λ g. not (is_done m.finished g)) (after m.site.groups m.plan e) i in
+        let a = In_unfilter (is_awaited m.site.groups e) m.plan u.0 in
         both_ways (is_done m.finished f) (not-true (is_done m.finished f) u.1) (ready.waited f a.0 (inr a.1))
 
 no_steps : (m : Fleet) (r : ℕ) (o : Option CellNo) → slice_get m.starts r ≡ o → AreSteps m.site o (kinds r m.plan) → (k : Kind) → In k (kinds r m.plan) → r < length m.starts
@@ -89,7 +89,7 @@ report_at s r n e o is known numbered waits =
         ∙ ap (λ w. None ∷ None ∷ option_map (λ on. report_refused.Early on) w ∷ []) waits
 
 -- a report of a ready event is accepted
-pub report_accepted : (s : State) (e : Event) → IsGoodPlan s.fleet → IsReady (IsBehind s.fleet.site) s.fleet.plan s.fleet.finished e
+pub report_accepted : (s : State) (e : Event) → IsGoodPlan s.fleet → IsReady (IsBehind s.fleet.site.groups) s.fleet.plan s.fleet.finished e
     → report s e.robot.0 e.no ≡ accepted nothing e.robot.0 (Reported e.no) (record s { fleet = reported s.fleet (Some e); count = s.count + 1 })
 report_accepted s e good ready =
     report_at s e.robot.0 e.no e (next_event s.fleet e.robot.0) (ready_next s.fleet e good ready) (lt-ltb e.robot.0 (length s.fleet.starts) (planned_robot s.fleet e good ready.planned)) (eq-eqb e.no.0 e.no.0 refl) (ready_waits s.fleet e ready)
@@ -104,8 +104,8 @@ reports_accepted s (e ∷ es) good h =
     )
 
 -- a ready event stays ready but for its own report and its own robot's withdrawal
-ready_still : (s : State) (r : ℕ) (c : Change) (a : Act) (e : Event) → IsGoodPlan s.fleet → Tells s r c a → CanChange s r c → a ≢ Reported e.no → (IsWithdrawal a → r ≢ e.robot.0) → IsReady (IsBehind s.fleet.site) s.fleet.plan s.fleet.finished e
-    → IsReady (IsBehind (changed s r c).fleet.site) (changed s r c).fleet.plan (changed s r c).fleet.finished e
+ready_still : (s : State) (r : ℕ) (c : Change) (a : Act) (e : Event) → IsGoodPlan s.fleet → Tells s r c a → CanChange s r c → a ≢ Reported e.no → (IsWithdrawal a → r ≢ e.robot.0) → IsReady (IsBehind s.fleet.site.groups) s.fleet.plan s.fleet.finished e
+    → IsReady (IsBehind (changed s r c).fleet.site.groups) (changed s r c).fleet.plan (changed s r c).fleet.finished e
 ready_still s r (Grew route) a e good tells can other own ready = ready_merged s.fleet r route e good ready
 ready_still s r (Kept route) a e good tells can other own ready = ready
 ready_still s r Dropped a e good tells can other own ready = ready
@@ -124,8 +124,8 @@ ready_still s r (Did f) Canceled e good tells can other own ready = absurd tells
 ready_still s r (Did f) (Withdrawn removed end) e good tells can other own ready = absurd tells
 ready_still s r (Did f) (Replanned cells first) e good tells can other own ready = absurd tells
 
-pub ready_lasts : (s : State) (entry : Entry) (e : Event) → IsSite s.fleet.site → IsGood s → (turn_at s entry).entry ≡ Some entry → entry.act ≢ Reported e.no → (IsWithdrawal entry.act → entry.robot.0 ≢ e.robot.0) → IsReady (IsBehind s.fleet.site) s.fleet.plan s.fleet.finished e
-    → IsReady (IsBehind (turn_at s entry).after.fleet.site) (turn_at s entry).after.fleet.plan (turn_at s entry).after.fleet.finished e
+pub ready_lasts : (s : State) (entry : Entry) (e : Event) → IsSite s.fleet.site → IsGood s → (turn_at s entry).entry ≡ Some entry → entry.act ≢ Reported e.no → (IsWithdrawal entry.act → entry.robot.0 ≢ e.robot.0) → IsReady (IsBehind s.fleet.site.groups) s.fleet.plan s.fleet.finished e
+    → IsReady (IsBehind (turn_at s entry).after.fleet.site.groups) (turn_at s entry).after.fleet.plan (turn_at s entry).after.fleet.finished e
 ready_lasts s entry e is_site good told other own ready =
     let a = accepts_at s entry is_site good told in
-    subst (λ n. IsReady (IsBehind n.fleet.site) n.fleet.plan n.fleet.finished e) (sym a.after_is) (ready_still s entry.robot.0 a.change entry.act e good.plan a.tells a.can other own ready)
+    subst (λ n. IsReady (IsBehind n.fleet.site.groups) n.fleet.plan n.fleet.finished e) (sym a.after_is) (ready_still s entry.robot.0 a.change entry.act e good.plan a.tells a.can other own ready)

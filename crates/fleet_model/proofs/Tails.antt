@@ -127,17 +127,17 @@ all_at : (p : Event → Bool) (xs : List Event) (x : Event) → In x xs → list
 all_at p [] x i h = elim i [ ]
 all_at p (y ∷ ys) x i h = let a = and_parts (p y) (list_all p ys) h in In_either i (λ e. rw e a.0) (λ k. all_at p ys x k a.1)
 
-pub removable_from : (m : Fleet) (tail : List Event) → ((f : Event) → In f tail → is_done m.finished f ≡ false) → ((e f : Event) → In e m.plan → In f tail → is_awaited m.site e f ≡ false) → is_removable m tail ≡ true
+pub removable_from : (m : Fleet) (tail : List Event) → ((f : Event) → In f tail → is_done m.finished f ≡ false) → ((e f : Event) → In e m.plan → In f tail → is_awaited m.site.groups e f ≡ false) → is_removable m tail ≡ true
 removable_from m tail undone unawaited =
-    all_from (λ f. not (is_done m.finished f) && not (list_any (λ e. is_awaited m.site e f) m.plan)) tail
-    (λ f i. and_from (not (is_done m.finished f)) (not (list_any (λ e. is_awaited m.site e f) m.plan)) (not_from_false (is_done m.finished f) (undone f i))
-    (not_from_false (list_any (λ e. is_awaited m.site e f) m.plan) (any_none (λ e. is_awaited m.site e f) m.plan (λ e j. unawaited e f j i))))
+    all_from (λ f. not (is_done m.finished f) && not (list_any (λ e. is_awaited m.site.groups e f) m.plan)) tail
+    (λ f i. and_from (not (is_done m.finished f)) (not (list_any (λ e. is_awaited m.site.groups e f) m.plan)) (not_from_false (is_done m.finished f) (undone f i))
+    (not_from_false (list_any (λ e. is_awaited m.site.groups e f) m.plan) (any_none (λ e. is_awaited m.site.groups e f) m.plan (λ e j. unawaited e f j i))))
 
 -- each event of a removable list is unfinished, and nothing stands behind it
-removable_at : (m : Fleet) (tail : List Event) (f : Event) → In f tail → is_removable m tail ≡ true → (is_done m.finished f ≡ false) × (list_any (λ e. is_awaited m.site e f) m.plan ≡ false)
+removable_at : (m : Fleet) (tail : List Event) (f : Event) → In f tail → is_removable m tail ≡ true → (is_done m.finished f ≡ false) × (list_any (λ e. is_awaited m.site.groups e f) m.plan ≡ false)
 removable_at m tail f i h =
-    let a = and_parts (not (is_done m.finished f)) (not (list_any (λ e. is_awaited m.site e f) m.plan)) (all_at (λ f. not (is_done m.finished f) && not (list_any (λ e. is_awaited m.site e f) m.plan)) tail f i h) in
-    (not-true (is_done m.finished f) a.0, not-true (list_any (λ e. is_awaited m.site e f) m.plan) a.1)
+    let a = and_parts (not (is_done m.finished f)) (not (list_any (λ e. is_awaited m.site.groups e f) m.plan)) (all_at (λ f. not (is_done m.finished f) && not (list_any (λ e. is_awaited m.site.groups e f) m.plan)) tail f i h) in
+    (not-true (is_done m.finished f) a.0, not-true (list_any (λ e. is_awaited m.site.groups e f) m.plan) a.1)
 
 -- a beginning of a walk is a walk
 walk_front : (site : Site) (a : CellNo) (front back : List CellNo) → IsWalkFrom site a (front ++ back) → IsWalkFrom site a front
@@ -207,7 +207,7 @@ module _ (m : Fleet) (r : ℕ) where
         splits = sym (take-append-drop chosen.place mine);
         rests = subst (λ o. AreSteps m.site o (kinds_of (take chosen.place mine))) (sym e) (front_rests a chosen.place steps chosen.among);
         undone = λ f i. (removable_at m (from_place chosen.place) f i chosen.passes).0;
-        unawaited = λ x f i j. none_any (λ y. is_awaited m.site y f) m.plan x i (removable_at m (from_place chosen.place) f j chosen.passes).1;
+        unawaited = λ x f i j. none_any (λ y. is_awaited m.site.groups y f) m.plan x i (removable_at m (from_place chosen.place) f j chosen.passes).1;
       }
     where
       chosen : IsChosen (is_removable m) from_place (rest_points m.site a (moved_to (kinds r m.plan))) (length mine)

@@ -76,7 +76,7 @@ module _ (m : Fleet) (r : ℕ) (tail : List Event) (good : IsGoodPlan m) (remova
       ∙ filter_all stays (own q m.plan) (λ e i. let o = own_In q m.plan i in other_stays e o.0 (λ h. apart (sym h ∙ o.1)) (cases_Bool (stays e)))
 
   -- an order of finished events stays one
-  order_kept : (done order : List Event) → ((e : Event) → In e order → is_done m.finished e ≡ true) → IsOrder (IsBehind m.site) m.plan done order → IsOrder (IsBehind m.site) after.plan done order
+  order_kept : (done order : List Event) → ((e : Event) → In e order → is_done m.finished e ≡ true) → IsOrder (IsBehind m.site.groups) m.plan done order → IsOrder (IsBehind m.site.groups) after.plan done order
   order_kept done [] f h = tt
   order_kept done (e ∷ es) f h = (
     record { planned = In-filter stays m.plan h.0.planned (stays_done e h.0.planned (f e (here refl)) (cases_Bool (stays e))); undone = h.0.undone; waited = λ x i b. h.0.waited x (In_unfilter stays m.plan i).0 b },
@@ -94,7 +94,7 @@ module _ (m : Fleet) (r : ℕ) (tail : List Event) (good : IsGoodPlan m) (remova
   opens_before q c n (inr o) = inr (o.0, (In_unfilter stays m.plan o.1).0, o.2, o.3, o.4)
 
   -- the release that a later use stands behind stays
-  closes_still : (q s : ℕ) (c d : ClaimNo) (n k : ℕ) → q ≢ s → in_conflict m.site d c ≡ true → Opens m s d k → Closes m.plan q c n k → Closes after.plan q c n k
+  closes_still : (q s : ℕ) (c d : ClaimNo) (n k : ℕ) → q ≢ s → in_conflict m.site.groups d c ≡ true → Opens m s d k → Closes m.plan q c n k → Closes after.plan q c n k
   closes_still q s c d n k apart conflict opens x =
       record { event = x.event; planned = In-filter stays m.plan x.planned (kept opens (cases_Bool (stays x.event))); robot = x.robot; kind = x.kind; above = x.above; below = x.below }
     where
@@ -115,7 +115,7 @@ module _ (m : Fleet) (r : ℕ) (tail : List Event) (good : IsGoodPlan m) (remova
     walks = λ q. walk_at q (cases_eq r q);
     finished = order_kept [] m.finished (λ e i. done_in m.finished i) good.finished;
     uses = λ q s c d n k apart conflict x y. elim (good.uses q s c d n k apart conflict (opens_before q c n x) (opens_before s d k y)) [
-      | inl u ↦ inl (closes_still q s c d n k apart (conflict_symmetric m.site c d conflict) (opens_before s d k y) u)
+      | inl u ↦ inl (closes_still q s c d n k apart (conflict_symmetric m.site.groups c d conflict) (opens_before s d k y) u)
       | inr u ↦ inr (closes_still s q d c k n (λ h. apart (sym h)) conflict (opens_before q c n x) u)
     ];
   }
@@ -131,7 +131,7 @@ pub withdrawn_end : (m : Fleet) (r q : ℕ) → IsGoodPlan m → (r ≡ q → �
 withdrawn_end m r q good apart = tail_withdrawn_end m r (removable_tail m r) good (tail_is m r good) q apart
 
 -- a ready event stays ready under a withdrawal by another robot
-pub ready_withdrawn : (m : Fleet) (r : ℕ) (e : Event) → IsGoodPlan m → (r ≡ e.robot.0 → ⊥) → IsReady (IsBehind m.site) m.plan m.finished e → IsReady (IsBehind m.site) (withdrawn m (removable_tail m r)).plan m.finished e
+pub ready_withdrawn : (m : Fleet) (r : ℕ) (e : Event) → IsGoodPlan m → (r ≡ e.robot.0 → ⊥) → IsReady (IsBehind m.site.groups) m.plan m.finished e → IsReady (IsBehind m.site.groups) (withdrawn m (removable_tail m r)).plan m.finished e
 ready_withdrawn m r e good apart ready =
     ready_stays m (removable_tail m r) e
     (not-true _ (other_stays m r (removable_tail m r) good (tail_is m r good) e ready.planned (λ h. apart (sym h)) (cases_Bool (not (is_done (removable_tail m r) e))))) ready

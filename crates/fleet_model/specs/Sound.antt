@@ -58,7 +58,7 @@ CanInsert s r route = (pairs : Insertion) × IsInsertion s.fleet (route_events s
 -- at this state: every allowed order is safe, and where an event is unfinished, some event is ready
 pub record IsSoundState (s : State) : Type 0 where
   pub safe : IsSafe s.fleet
-  pub ready : (e : Event) → In e s.fleet.plan → is_done s.fleet.finished e ≡ false → (f : Event) × IsReady (IsBehind s.fleet.site) s.fleet.plan s.fleet.finished f
+  pub ready : (e : Event) → In e s.fleet.plan → is_done s.fleet.finished e ≡ false → (f : Event) × IsReady (IsBehind s.fleet.site.groups) s.fleet.plan s.fleet.finished f
 
 -- the entry at this state: a merge removes no allowed order, and a proposal is deferred exactly where no insertion of it is safe; the deferral names a cycle exactly where there is one through its robot
 pub record IsSoundEntry (s : State) (entry : Entry) : Type 0 where

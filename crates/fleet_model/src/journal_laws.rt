@@ -57,8 +57,8 @@ pub fn cycles_bind()
 /// A ready event stays ready but for its own report and its own robot's withdrawal.
 pub fn ready_lasts()
     ensures ready { (s : State) (entry : Entry) (e : Event) → IsSite s.fleet.site → IsGood s → (turn_at s entry).entry ≡ Some entry → entry.act ≢ Reported e.no → (IsWithdrawal entry.act → entry.robot.0 ≢ e.robot.0)
-        → IsReady (IsBehind s.fleet.site) s.fleet.plan s.fleet.finished e
-        → IsReady (IsBehind (turn_at s entry).after.fleet.site) (turn_at s entry).after.fleet.plan (turn_at s entry).after.fleet.finished e }
+        → IsReady (IsBehind s.fleet.site.groups) s.fleet.plan s.fleet.finished e
+        → IsReady (IsBehind (turn_at s entry).after.fleet.site.groups) (turn_at s entry).after.fleet.plan (turn_at s entry).after.fleet.finished e }
 {}
 
 /// Reporting any allowed order, event by event, is accepted at each event.
