@@ -1,13 +1,13 @@
 -- What a set of words contains, and what a written bit changes.
 use Rattle.std.proofs.Common.{◌≡◌, ◌≢◌, ℕ, zero, suc, ◌+◌, ◌-◌, ◌*◌, ◌/◌, ◌%◌, ◌^◌, ◌<◌, ◌≤◌, Bool, true, false, cond, not, ◌&&◌, ◌||◌, eqb, ltb, List, length, get_or, set, replicate, bit_and, bit_or, refl, sym, ap, subst, ◌∙◌, inl, inr, w64, arith, rules, tests}
-use Rattle.std.specs.Int.{bit_at, bit_not}
+use Rattle.std.specs.Int.{bit_at, bit_not, trailing_zeros}
 use Rattle.std.specs.Ordering.{nat_cmp, eq_by_cmp}
 use Rattle.std.specs.Cmp.{nat_cmp_total, unsigned_tied}
 use Rattle.std.specs.FinSet.{FinSet, empty, contains, insert, remove, contains-empty, contains-insert, contains-remove, same_set, nat_cmp-IsAntisymmetric}
-use Rattle.std.proofs.lemmas.Bool.{ltb-true, lt-ltb, le-ltb, eq-eqb, ne_eqb, cases_order, cases_eq, cases_lt, and_left, and_parts, cond-true, cond-false}
+use Rattle.std.proofs.lemmas.Bool.{ltb-true, eqb-true, false≢true, lt-ltb, le-ltb, eq-eqb, ne_eqb, cases_order, cases_eq, cases_lt, and_left, and_parts, cond-true, cond-false}
 use Rattle.std.proofs.lemmas.List.{get_or_past, get_or-set_same, get_or-set_other, get_or-replicate, length-replicate}
 use Rattle.std.proofs.lemmas.Nat.{one_shl, pow_pos, le-div}
-use Rattle.std.proofs.lemmas.Nat.Bits.{and_pow, bit_at-lt, bit_at-zero, bit_at_set_same, bit_at_set_other, bit_at_clear_same, bit_at_clear_other}
+use Rattle.std.proofs.lemmas.Nat.Bits.{and_pow, bit_at-lt, bit_at-zero, bit_at-trailing_zeros, bit_at_set_same, bit_at_set_other, bit_at_clear_same, bit_at_clear_other}
 use Rattle.bit_set.specs.Words.{is_marked, passing_below, members_of}
 
 -- the three places of a number against a bound
@@ -61,17 +61,50 @@ contains-members_of words q =
     ] refl
 
 -- words of no bit have no members
-unmarked_word : (n i : ℕ) → ◌≡◌ {A = ℕ} (get_or (replicate n 0) i 0) 0
-unmarked_word n i =
-    elim (cases_lt i n) [
-      | inl within ↦ get_or-replicate {A = ℕ} n i 0 0 within
-      | inr past ↦ get_or_past {X = ℕ} (replicate n 0) i 0 (omega (arith, length-replicate {A = ℕ} n 0))
-    ]
+pub members_of-blank : (words : List ℕ) → ((k : ℕ) → k < length words → ◌≡◌ {A = ℕ} (get_or words k 0) 0) → members_of words ≡ empty
+members_of-blank words blank =
+    same_set nat_cmp_total nat_cmp-IsAntisymmetric _ _
+    (λ q.
+      let word : ◌≡◌ {A = ℕ} (get_or words (q / 64) 0) 0 = elim (cases_lt (q / 64) (length words)) [ inl within ↦ blank (q / 64) within | inr past ↦ get_or_past words (q / 64) 0 past ] in
+      contains-members_of words q ∙ rw (word, bit_at-zero (q % 64)) (sym (contains-empty nat_cmp q)))
 
 pub members_of-replicate : (n : ℕ) → members_of (replicate n 0) ≡ empty
-members_of-replicate n =
-    same_set nat_cmp_total nat_cmp-IsAntisymmetric _ _
-    (λ q. contains-members_of (replicate n 0) q ∙ rw (unmarked_word n (q / 64), bit_at-zero (q % 64)) (sym (contains-empty nat_cmp q)))
+members_of-replicate n = members_of-blank (replicate n 0) (λ k within. get_or-replicate n k 0 0 (omega (arith, length-replicate {A = ℕ} n 0)))
+
+-- the lowest bit of a word is its least member
+pub contains-lowest : (words : List ℕ) (p : ℕ) → (get_or words p 0 ≡ 0 → ⊥) → get_or words p 0 < 2 ^ 64 → contains (members_of words) (64 * p + trailing_zeros w64 (get_or words p 0)) ≡ true
+contains-lowest words p used fits =
+    let w : ℕ = get_or words p 0 in
+    let lowest = bit_at-trailing_zeros w64 w (omega arith) fits in
+    let row : (64 * p + trailing_zeros w64 w) / 64 ≡ p = omega (arith, lowest.0) in
+    let column : (64 * p + trailing_zeros w64 w) % 64 ≡ trailing_zeros w64 w = omega (arith, lowest.0) in
+    contains-members_of words (64 * p + trailing_zeros w64 w)
+    ∙ ap (λ k. eqb (bit_at (get_or words k 0) ((64 * p + trailing_zeros w64 w) % 64)) 1) row
+    ∙ ap (λ i. eqb (bit_at w i) 1) column
+    ∙ ap (λ b. eqb b 1) lowest.1
+
+pub members_of-used : (words : List ℕ) (p : ℕ) → (get_or words p 0 ≡ 0 → ⊥) → get_or words p 0 < 2 ^ 64 → members_of words ≡ empty → ⊥
+members_of-used words p used fits none =
+    false≢true (sym (contains-empty nat_cmp _) ∙ ap (λ s. contains s (64 * p + trailing_zeros w64 (get_or words p 0))) (sym none) ∙ contains-lowest words p used fits)
+
+pub lowest-least : (words : List ℕ) (p m : ℕ) → (get_or words p 0 ≡ 0 → ⊥) → get_or words p 0 < 2 ^ 64 → ((k : ℕ) → k < p → ◌≡◌ {A = ℕ} (get_or words k 0) 0) → contains (members_of words) m ≡ true → 64 * p + trailing_zeros w64 (get_or words p 0) ≤ m
+lowest-least words p m used fits blank member =
+    let w : ℕ = get_or words p 0 in
+    let lowest = bit_at-trailing_zeros w64 w (omega arith) fits in
+    let bit : bit_at (get_or words (m / 64) 0) (m % 64) ≡ 1 = eqb-true _ _ (sym (contains-members_of words m) ∙ member) in
+    elim (cases_order (m / 64) p) [
+      | inl same ↦ elim (cases_lt (m % 64) (trailing_zeros w64 w)) [
+        | inl below ↦
+          let clear : bit_at w (m % 64) ≡ 0 = lowest.2 (m % 64) below in
+          let set : bit_at w (m % 64) ≡ 1 = ap (λ k. bit_at (get_or words k 0) (m % 64)) (sym same) ∙ bit in
+          absurd (omega arith)
+        | inr upto ↦ omega arith
+      ]
+      | inr (inl before) ↦
+        let clear : bit_at (get_or words (m / 64) 0) (m % 64) ≡ 0 = ap (λ w. bit_at w (m % 64)) (blank (m / 64) before) ∙ bit_at-zero (m % 64) in
+        absurd (omega arith)
+      | inr (inr after) ↦ omega (arith, lowest.0)
+    ]
 
 -- the test of a number's bit
 bit_test : (b p : ℕ) → b < 2 → 0 < p → not (eqb (b * p) 0) ≡ eqb b 1
