@@ -1,7 +1,7 @@
 -- What a set of words contains, and what a written bit changes.
-use Rattle.std.proofs.Common.{◌≡◌, ◌≢◌, ℕ, zero, suc, ◌+◌, ◌-◌, ◌*◌, ◌/◌, ◌%◌, ◌^◌, ◌<◌, ◌≤◌, Bool, true, false, cond, not, ◌&&◌, ◌||◌, eqb, ltb, List, length, get_or, set, replicate, bit_and, bit_or, refl, sym, ap, subst, ◌∙◌, inl, inr, w64, arith, rules, tests}
+use Rattle.std.proofs.Common.{◌≡◌, ◌≢◌, ℕ, zero, suc, ◌+◌, ◌*◌, ◌/◌, ◌%◌, ◌^◌, ◌<◌, ◌≤◌, Bool, true, false, cond, not, ◌&&◌, ◌||◌, eqb, ltb, List, length, get_or, set, replicate, bit_and, bit_or, refl, sym, ap, ◌∙◌, inl, inr, w64, arith, tests}
 use Rattle.std.specs.Int.{bit_at, bit_not, trailing_zeros}
-use Rattle.std.specs.Ordering.{nat_cmp, eq_by_cmp}
+use Rattle.std.specs.Ordering.{nat_cmp}
 use Rattle.std.specs.Cmp.{nat_cmp_total, unsigned_tied}
 use Rattle.std.specs.FinSet.{FinSet, empty, contains, insert, remove, contains-empty, contains-insert, contains-remove, same_set, nat_cmp-IsAntisymmetric}
 use Rattle.std.proofs.lemmas.Bool.{ltb-true, eqb-true, false≢true, lt-ltb, le-ltb, eq-eqb, ne_eqb, cases_order, cases_eq, cases_lt, and_left, and_parts, cond-true, cond-false}
@@ -65,8 +65,8 @@ pub members_of-blank : (words : List ℕ) → ((k : ℕ) → k < length words �
 members_of-blank words blank =
     same_set nat_cmp_total nat_cmp-IsAntisymmetric _ _
     (λ q.
-      let word : ◌≡◌ {A = ℕ} (get_or words (q / 64) 0) 0 = elim (cases_lt (q / 64) (length words)) [ inl within ↦ blank (q / 64) within | inr past ↦ get_or_past words (q / 64) 0 past ] in
-      contains-members_of words q ∙ rw (word, bit_at-zero (q % 64)) (sym (contains-empty nat_cmp q)))
+    let word : ◌≡◌ {A = ℕ} (get_or words (q / 64) 0) 0 = elim (cases_lt (q / 64) (length words)) [ inl within ↦ blank (q / 64) within | inr past ↦ get_or_past words (q / 64) 0 past ] in
+    contains-members_of words q ∙ rw (word, bit_at-zero (q % 64)) (sym (contains-empty nat_cmp q)))
 
 pub members_of-replicate : (n : ℕ) → members_of (replicate n 0) ≡ empty
 members_of-replicate n = members_of-blank (replicate n 0) (λ k within. get_or-replicate n k 0 0 (omega (arith, length-replicate {A = ℕ} n 0)))
@@ -95,14 +95,14 @@ lowest-least words p m used fits blank member =
     elim (cases_order (m / 64) p) [
       | inl same ↦ elim (cases_lt (m % 64) (trailing_zeros w64 w)) [
         | inl below ↦
-          let clear : bit_at w (m % 64) ≡ 0 = lowest.2 (m % 64) below in
-          let set : bit_at w (m % 64) ≡ 1 = ap (λ k. bit_at (get_or words k 0) (m % 64)) (sym same) ∙ bit in
-          absurd (omega arith)
+            let clear : bit_at w (m % 64) ≡ 0 = lowest.2 (m % 64) below in
+            let set : bit_at w (m % 64) ≡ 1 = ap (λ k. bit_at (get_or words k 0) (m % 64)) (sym same) ∙ bit in
+            absurd (omega arith)
         | inr upto ↦ omega arith
       ]
       | inr (inl before) ↦
-        let clear : bit_at (get_or words (m / 64) 0) (m % 64) ≡ 0 = ap (λ w. bit_at w (m % 64)) (blank (m / 64) before) ∙ bit_at-zero (m % 64) in
-        absurd (omega arith)
+          let clear : bit_at (get_or words (m / 64) 0) (m % 64) ≡ 0 = ap (λ w. bit_at w (m % 64)) (blank (m / 64) before) ∙ bit_at-zero (m % 64) in
+          absurd (omega arith)
       | inr (inr after) ↦ omega (arith, lowest.0)
     ]
 
@@ -123,19 +123,19 @@ is_marked-set : (words : List ℕ) (k v q : ℕ) (b : Bool) → k < 64 * length 
 is_marked-set words k v q b within changed kept =
     elim (cases_eq (q / 64) (k / 64)) [
       | inr other ↦
-        let apart : q ≢ k = λ e. other (ap (λ n. n / 64) e) in
-        rw (ne_eqb q k apart) (ap (λ w. eqb (bit_at w (q % 64)) 1) (get_or-set_other words (k / 64) (q / 64) v 0 other))
+          let apart : q ≢ k = λ e. other (ap (λ n. n / 64) e) in
+          rw (ne_eqb q k apart) (ap (λ w. eqb (bit_at w (q % 64)) 1) (get_or-set_other words (k / 64) (q / 64) v 0 other))
       | inl same ↦
-        let written : get_or (set words (k / 64) v) (q / 64) 0 ≡ v = ap (λ i. get_or (set words (k / 64) v) i 0) same ∙ get_or-set_same words (k / 64) v 0 (omega arith) in
-        ap (λ w. eqb (bit_at w (q % 64)) 1) written
-        ∙ elim (cases_eq (q % 64) (k % 64)) [
-          | inl bit ↦ ap (λ i. eqb (bit_at v i) 1) bit ∙ changed ∙ sym (cond-true (eqb q k) b (is_marked words q) (eq-eqb q k (omega arith)))
-          | inr bit ↦
-            let apart : q ≢ k = λ e. bit (ap (λ n. n % 64) e) in
-            ap (λ n. eqb n 1) (kept (q % 64) (omega arith) bit)
-            ∙ ap (λ i. eqb (bit_at (get_or words i 0) (q % 64)) 1) (sym same)
-            ∙ sym (cond-false (eqb q k) b (is_marked words q) (ne_eqb q k apart))
-        ]
+          let written : get_or (set words (k / 64) v) (q / 64) 0 ≡ v = ap (λ i. get_or (set words (k / 64) v) i 0) same ∙ get_or-set_same words (k / 64) v 0 (omega arith) in
+          ap (λ w. eqb (bit_at w (q % 64)) 1) written
+          ∙ elim (cases_eq (q % 64) (k % 64)) [
+            | inl bit ↦ ap (λ i. eqb (bit_at v i) 1) bit ∙ changed ∙ sym (cond-true (eqb q k) b (is_marked words q) (eq-eqb q k (omega arith)))
+            | inr bit ↦
+                let apart : q ≢ k = λ e. bit (ap (λ n. n % 64) e) in
+                ap (λ n. eqb n 1) (kept (q % 64) (omega arith) bit)
+                ∙ ap (λ i. eqb (bit_at (get_or words i 0) (q % 64)) 1) (sym same)
+                ∙ sym (cond-false (eqb q k) b (is_marked words q) (ne_eqb q k apart))
+          ]
     ]
 
 cond-or : (b x : Bool) → cond b true x ≡ (b || x)
@@ -151,19 +151,19 @@ pub members_of-insert : (words : List ℕ) (k : ℕ) → k < 64 * length words �
 members_of-insert words k within =
     same_set nat_cmp_total nat_cmp-IsAntisymmetric _ _
     (λ q.
-      contains-members_of _ q
-      ∙ is_marked-set words k _ q true within (ap (λ n. eqb n 1) (bit_at_set_same w64 _ (k % 64) (omega arith))) (λ i _ other. bit_at_set_other w64 _ (k % 64) (omega arith) i other)
-      ∙ cond-or (eqb q k) (is_marked words q)
-      ∙ ap (λ b. eqb q k || b) (sym (contains-members_of words q))
-      ∙ sym (contains-insert_nat (members_of words) k q))
+    contains-members_of _ q
+    ∙ is_marked-set words k _ q true within (ap (λ n. eqb n 1) (bit_at_set_same w64 _ (k % 64) (omega arith))) (λ i _ other. bit_at_set_other w64 _ (k % 64) (omega arith) i other)
+    ∙ cond-or (eqb q k) (is_marked words q)
+    ∙ ap (λ b. eqb q k || b) (sym (contains-members_of words q))
+    ∙ sym (contains-insert_nat (members_of words) k q))
 
 -- a word whose bit is cleared
 pub members_of-remove : (words : List ℕ) (k : ℕ) → k < 64 * length words → members_of (set words (k / 64) (bit_and (get_or words (k / 64) 0) (bit_not w64 (1 * 2 ^ (k % 64) % 2 ^ 64)))) ≡ remove (members_of words) k
 members_of-remove words k within =
     same_set nat_cmp_total nat_cmp-IsAntisymmetric _ _
     (λ q.
-      contains-members_of _ q
-      ∙ is_marked-set words k _ q false within (ap (λ n. eqb n 1) (bit_at_clear_same w64 _ (k % 64) (omega arith))) (λ i below other. bit_at_clear_other w64 _ (k % 64) (omega arith) i below other)
-      ∙ cond-and (eqb q k) (is_marked words q)
-      ∙ ap (λ b. not (eqb q k) && b) (sym (contains-members_of words q))
-      ∙ sym (contains-remove_nat (members_of words) k q))
+    contains-members_of _ q
+    ∙ is_marked-set words k _ q false within (ap (λ n. eqb n 1) (bit_at_clear_same w64 _ (k % 64) (omega arith))) (λ i below other. bit_at_clear_other w64 _ (k % 64) (omega arith) i below other)
+    ∙ cond-and (eqb q k) (is_marked words q)
+    ∙ ap (λ b. not (eqb q k) && b) (sym (contains-members_of words q))
+    ∙ sym (contains-remove_nat (members_of words) k q))

@@ -102,7 +102,13 @@ mod tests {
         set.remove(3);
         assert!(rt; !set.is_empty());
         assert_eq!(rt; set.first(), Some(64));
-        for (number, there) in [(3, false), (63, false), (64, true), (126, false), (127, true)] {
+        for (number, there) in [
+            (3, false),
+            (63, false),
+            (64, true),
+            (126, false),
+            (127, true),
+        ] {
             assert_eq!(rt; set.contains(number), there, "at {number}");
         }
     }

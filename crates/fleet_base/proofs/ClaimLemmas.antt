@@ -1,5 +1,5 @@
 -- Short lists of claims that ascend.
-use Rattle.std.proofs.Common.{◌≡◌, ℕ, zero, suc, ◌+◌, ◌<◌, ◌≤◌, Bool, true, false, cond, ltb, List, [], ◌∷◌, ◌++◌, length, get_or, set, take, drop, Result, Ok, Err, IsOk, OnOk, refl, sym, ap, subst, ◌∙◌, ◌-◌, arith}
+use Rattle.std.proofs.Common.{◌≡◌, ℕ, zero, suc, ◌+◌, ◌<◌, ◌≤◌, Bool, true, false, cond, ltb, ◌⊎◌, inl, inr, List, [], ◌∷◌, ◌++◌, length, get_or, set, take, drop, Result, Ok, Err, IsOk, OnOk, refl, sym, ap, subst, ◌∙◌, ◌-◌, arith}
 use Rattle.std.specs.List.{Contains, insert, prefix_len, take_while}
 use Rattle.std.proofs.lemmas.Bool.{ltb-true, ltb-false, true≢false}
 use Rattle.fleet_base.specs.declared.numbers.ClaimNo.{ClaimNo}
@@ -66,6 +66,48 @@ length-placed (c ∷ cs) claim =
       | true ↦ omega (arith, length-placed cs claim)
       | false ↦ omega arith
     ]
+
+Contains-cases : (c other : ClaimNo) (cs : List ClaimNo) → Contains (c ∷ cs) other → (c ≡ other) ⊎ Contains cs other
+Contains-cases c other cs (zero, below, at) = inl at
+Contains-cases c other cs (suc k, below, at) = inr (k, omega arith, at)
+
+-- a list with a claim put into its place contains that claim and those that it had
+pub Contains-placed : (claims : List ClaimNo) (claim other : ClaimNo) → Contains (placed claims claim) other → (claim ≡ other) ⊎ Contains claims other
+Contains-placed [] claim other has = Contains-cases claim other [] has
+Contains-placed (c ∷ cs) claim other has =
+    elim (ltb c.0 claim.0) as (λ b. Contains (cond b (c ∷ placed cs claim) (claim ∷ c ∷ cs)) other → (claim ≡ other) ⊎ Contains (c ∷ cs) other) [
+      | true ↦ λ h. elim (Contains-cases c other (placed cs claim) h) [
+        | inl first ↦ inr (0, omega arith, first)
+        | inr later ↦ elim (Contains-placed cs claim other later) [ inl is ↦ inl is | inr had ↦ inr (Contains-tail c other cs had) ]
+      ]
+      | false ↦ λ h. Contains-cases claim other (c ∷ cs) h
+    ] has
+
+pub placed-contains : (claims : List ClaimNo) (claim other : ClaimNo) → (claim ≡ other) ⊎ Contains claims other → Contains (placed claims claim) other
+placed-contains [] claim other (inl is) = (0, omega arith, is)
+placed-contains [] claim other (inr had) = Contains-tail claim other [] had
+placed-contains (c ∷ cs) claim other has =
+    elim (ltb c.0 claim.0) as (λ b. Contains (cond b (c ∷ placed cs claim) (claim ∷ c ∷ cs)) other) [
+      | true ↦ elim has [
+        | inl is ↦ Contains-tail c other (placed cs claim) (placed-contains cs claim other (inl is))
+        | inr had ↦ elim (Contains-cases c other cs had) [
+          | inl first ↦ (0, omega arith, first)
+          | inr later ↦ Contains-tail c other (placed cs claim) (placed-contains cs claim other (inr later))
+        ]
+      ]
+      | false ↦ elim has [
+        | inl is ↦ (0, omega arith, is)
+        | inr had ↦ Contains-tail claim other (c ∷ cs) had
+      ]
+    ]
+
+-- a claim is missing from the empty list, and still is where another claim was put
+pub missing_at_first : (claim : ClaimNo) → Contains [] claim → ⊥
+missing_at_first claim (k, below, at) = omega arith
+
+pub missing_still : (claims : List ClaimNo) (claim other : ClaimNo) → (Contains claims other → ⊥) → (claim.0 ≡ other.0 → ⊥) → Contains (placed claims claim) other → ⊥
+missing_still claims claim other missing apart has =
+    elim (Contains-placed claims claim other has) [ inl is ↦ apart (ap (λ c. c.0) is) | inr had ↦ missing had ]
 
 -- a short vector of claims stays one with a claim in its place
 pub AreKept-placed : (old new : SmallVec ClaimNo) (claim : ClaimNo) → AreKept old → (Contains old.items claim → ⊥) → length old.items < 3 → new.items ≡ placed old.items claim → new.capacity ≡ old.capacity → AreKept new

@@ -12,3 +12,6 @@ pub mod numbers;
 pub mod path;
 mod placing;
 pub mod robot_list;
+
+#[cfg(test)]
+mod tests;

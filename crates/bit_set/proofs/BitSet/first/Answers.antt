@@ -1,4 +1,4 @@
-use Rattle.std.proofs.Common.{w64, ◌+◌, ◌*◌, ◌≡◌, ◌<◌, ◌^◌, get_or, sym, ap, ◌∙◌, arith}
+use Rattle.std.proofs.Common.{w64, ◌+◌, ◌*◌, get_or, sym, ap, ◌∙◌, arith}
 use Rattle.std.specs.Int.{trailing_zeros}
 use Rattle.std.specs.FinSet.{contains}
 use Rattle.bit_set.proofs.Members.{members_of-blank, contains-lowest, lowest-least}
