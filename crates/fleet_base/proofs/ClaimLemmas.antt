@@ -1,24 +1,22 @@
 -- Short lists of claims that ascend.
-use Rattle.std.proofs.Common.{◌≡◌, ℕ, zero, suc, ◌+◌, ◌<◌, ◌≤◌, Bool, true, false, cond, ltb, ◌⊎◌, inl, inr, List, [], ◌∷◌, ◌++◌, length, get_or, set, take, drop, Result, Ok, Err, IsOk, OnOk, refl, sym, ap, subst, ◌∙◌, ◌-◌, arith}
+use Rattle.std.proofs.Common.{◌≡◌, ℕ, zero, suc, ◌+◌, ◌<◌, ◌≤◌, Bool, true, false, cond, ltb, ◌⊎◌, inl, inr, List, [], ◌∷◌, ◌++◌, length, set, take, drop, Result, Ok, Err, IsOk, OnOk, refl, sym, ap, subst, ◌∙◌, ◌-◌, arith}
 use Rattle.std.specs.List.{Contains, insert, prefix_len, take_while}
 use Rattle.std.proofs.lemmas.Bool.{ltb-true, ltb-false, true≢false}
 use Rattle.fleet_base.specs.declared.numbers.ClaimNo.{ClaimNo}
 use Rattle.fleet_base.specs.Lists.{count_below, placed, RiseFrom}
 use Rattle.fleet_base.specs.ClaimLists.{AreKept}
-use Rattle.fleet_base.specs.HeldLists.{IsFilled}
-use Rattle.fleet_base.specs.declared.held.Held.TheInside.{Inside}
 use Rattle.smallvec.specs.SmallVec.{SmallVec}
 use borrow.Rule.Slice.PartMut.{put_mid, mid_of}
 use Rattle.std.proofs.lemmas.Slice.{take-put_mid, between_is}
-use Rattle.std.proofs.lemmas.List.{length-take-le, length-append, length-drop, length_push, drop-append-le, take-append-le, take_more_set, take-set-le, drop_at, take_at, length-set, take-take}
+use Rattle.std.proofs.lemmas.List.{length-take-le, length-drop, length_push, drop-append-le, take_more_set, take-set-le, drop_at, take_at, length-set, take-take}
 
 length-take_while : {X : Type 0} (p : X → Bool) (xs : List X) → length (take_while p xs) ≡ prefix_len p xs
 length-take_while p [] = refl
 length-take_while p (x ∷ xs) =
     elim (p x) as (λ b. length (take (cond b (1 + prefix_len p xs) 0) (x ∷ xs)) ≡ cond b (1 + prefix_len p xs) 0) [
       | true ↦
-        let one_more : 1 + prefix_len p xs ≡ suc (prefix_len p xs) = omega arith in
-        rw one_more (ap suc (length-take_while p xs))
+          let one_more : 1 + prefix_len p xs ≡ suc (prefix_len p xs) = omega arith in
+          rw one_more (ap suc (length-take_while p xs))
       | false ↦ refl
     ]
 
@@ -30,8 +28,8 @@ insert-prefix_len [] claim = refl
 insert-prefix_len (c ∷ cs) claim =
     elim (ltb c.0 claim.0) as (λ b. insert (c ∷ cs) (cond b (1 + prefix_len (is_below claim) cs) 0) claim ≡ cond b (c ∷ placed cs claim) (claim ∷ c ∷ cs)) [
       | true ↦
-        let one_more : 1 + prefix_len (is_below claim) cs ≡ suc (prefix_len (is_below claim) cs) = omega arith in
-        rw one_more (ap (λ xs. c ∷ xs) (insert-prefix_len cs claim))
+          let one_more : 1 + prefix_len (is_below claim) cs ≡ suc (prefix_len (is_below claim) cs) = omega arith in
+          rw one_more (ap (λ xs. c ∷ xs) (insert-prefix_len cs claim))
       | false ↦ refl
     ]
 
@@ -51,12 +49,12 @@ RiseFrom-placed low [] claim rise above missing = (above, tt)
 RiseFrom-placed low (c ∷ cs) claim rise above missing =
     elim (ltb c.0 claim.0) as (λ b. ltb c.0 claim.0 ≡ b → RiseFrom low (cond b (c ∷ placed cs claim) (claim ∷ c ∷ cs))) [
       | true ↦ λ e.
-        let below = ltb-true c.0 claim.0 e in
-        (rise.0, RiseFrom-placed (c.0 + 1) cs claim rise.1 (omega arith) (λ h. missing (Contains-tail c claim cs h)))
+          let below = ltb-true c.0 claim.0 e in
+          (rise.0, RiseFrom-placed (c.0 + 1) cs claim rise.1 (omega arith) (λ h. missing (Contains-tail c claim cs h)))
       | false ↦ λ e.
-        let upto = ltb-false c.0 claim.0 e in
-        let other : c.0 ≡ claim.0 → ⊥ = λ same. missing (Contains-head c claim cs same) in
-        (above, (omega arith, rise.1))
+          let upto = ltb-false c.0 claim.0 e in
+          let other : c.0 ≡ claim.0 → ⊥ = λ same. missing (Contains-head c claim cs same) in
+          (above, (omega arith, rise.1))
     ] refl
 
 pub length-placed : (claims : List ClaimNo) (claim : ClaimNo) → length (placed claims claim) ≡ length claims + 1
@@ -129,15 +127,15 @@ pub take-rotated : (places part : List ClaimNo) (count place : ℕ) (claim : Cla
 take-rotated places part count place claim within upto is =
     let used : length (take count places) ≡ count = length-take-le count places (omega arith) in
     let mid : mid_of place (count + 1 - place) (set places count claim) ≡ drop place (take count places) ++ claim ∷ [] =
-        between_is (set places count claim) place (count + 1)
-        ∙ ap (λ l. drop place l) (take_more_set places count claim within)
-        ∙ drop-append-le place (take count places) (claim ∷ []) (omega arith)
+    between_is (set places count claim) place (count + 1)
+    ∙ ap (λ l. drop place l) (take_more_set places count claim within)
+    ∙ drop-append-le place (take count places) (claim ∷ []) (omega arith)
     in
     let whole : part ≡ claim ∷ drop place (take count places) =
-        is ∙ ap (λ m. drop (length m - 1) m ++ take (length m - 1) m) mid ∙ rotated (drop place (take count places)) claim
+    is ∙ ap (λ m. drop (length m - 1) m ++ take (length m - 1) m) mid ∙ rotated (drop place (take count places)) claim
     in
     let front : take place (set places count claim) ≡ take place (take count places) =
-        take-set-le place places count claim upto ∙ sym (take-take place count places upto)
+    take-set-le place places count claim upto ∙ sym (take-take place count places upto)
     in
     let long : count + 1 ≡ place + length part = omega (arith, ap length whole, length-drop place (take count places)) in
     take-put_mid place (count + 1 - place) (set places count claim) part (count + 1) long (omega (arith, length-set places count claim))

@@ -1,5 +1,5 @@
 -- What edges lead where, after each call.
-use Rattle.std.proofs.Common.{◌≡◌, ◌≢◌, ℕ, ◌+◌, ◌*◌, ◌<◌, ◌≤◌, Bool, true, false, cond, not, ◌&&◌, ◌||◌, eqb, ltb, refl, sym, ap, ◌∙◌, inl, inr, arith}
+use Rattle.std.proofs.Common.{◌≡◌, ℕ, ◌<◌, Bool, true, false, cond, not, ◌&&◌, ◌||◌, eqb, ltb, refl, sym, ap, ◌∙◌, inl, inr, arith}
 use Rattle.std.specs.Ordering.{nat_cmp}
 use Rattle.std.specs.FinSet.{FinSet, empty, contains, insert, remove, contains-empty}
 use Rattle.std.proofs.lemmas.Bool.{lt-ltb, le-ltb, eq-eqb, ne_eqb, cases_eq, cases_lt, and_right, cond-false}
@@ -26,11 +26,11 @@ leads_changed : (old new : FinSet nat_cmp) (from to : ℕ) (there : Bool) → to
 leads_changed old new from to there known changed r q =
     elim (cases_lt q 64) [
       | inl within ↦
-        rw (lt-ltb q 64 within)
-        (changed (edge_place r q) ∙ ap (λ b. cond b there (contains old (edge_place r q))) (same_place r q from to within known))
+          rw (lt-ltb q 64 within)
+          (changed (edge_place r q) ∙ ap (λ b. cond b there (contains old (edge_place r q))) (same_place r q from to within known))
       | inr past ↦
-        rw (le-ltb q 64 past)
-        (sym (cond-false _ there false (and_right (eqb r from) (eqb q to) (ne_eqb q to (omega arith)))))
+          rw (le-ltb q 64 past)
+          (sym (cond-false _ there false (and_right (eqb r from) (eqb q to) (ne_eqb q to (omega arith)))))
     ]
 
 or-cond : (b x : Bool) → (b || x) ≡ cond b true x

@@ -12,6 +12,5 @@ pub mod numbers;
 pub mod path;
 mod placing;
 pub mod robot_list;
-
 #[cfg(test)]
 mod tests;

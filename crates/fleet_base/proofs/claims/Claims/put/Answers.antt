@@ -1,4 +1,4 @@
-use Rattle.std.proofs.Common.{◌≡◌, ◌+◌, ◌<◌, ◌≤◌, sym, ap, subst, ◌∙◌, length, arith}
+use Rattle.std.proofs.Common.{◌<◌, sym, ap, subst, ◌∙◌, length, arith}
 use Rattle.std.specs.List.{insert, Contains}
 use Rattle.fleet_base.specs.Lists.{count_below, placed}
 use Rattle.fleet_base.proofs.ClaimLemmas.{insert-count_below, AreKept-placed, on_ok}

@@ -1,7 +1,7 @@
-use Rattle.std.proofs.Common.{◌≡◌, ◌<◌, ◌≤◌, sym, ap, subst, ◌∙◌, length, take, arith}
-use Rattle.std.specs.List.{insert, Contains}
+use Rattle.std.proofs.Common.{◌≡◌, ◌<◌, sym, ap, subst, ◌∙◌, length, take, arith}
+use Rattle.std.specs.List.{insert}
 use Rattle.std.proofs.lemmas.List.{length-take-le}
-use Rattle.fleet_base.specs.Lists.{count_below, placed, RiseFrom}
+use Rattle.fleet_base.specs.Lists.{placed, RiseFrom}
 use Rattle.fleet_base.proofs.ClaimLemmas.{insert-count_below, RiseFrom-placed, take-rotated}
 use Rattle.fleet_base.proofs.held.Held.put.Goals as goal
 
