@@ -7,6 +7,8 @@ use crate::numbers::ClaimNo;
 
 /// The blank claim of a place that isn't used.
 impl Default for ClaimNo {
+    ghost is_default = { λ c. c.0 ≡ 0 };
+
     fn default() -> ClaimNo {
         ClaimNo(0)
     }
