@@ -167,6 +167,14 @@ pub fn detour_ends_cycle()
     ensures waits { waits (after_calls (fleet_on bypass (b ∷ c ∷ [])) by_the_detour) ≡ (7, 3) ∷ [] }
 {}
 
+/// A replan is for a pending route, and leads on from the robot's end, also where the robot isn't
+/// there yet.
+pub fn replan_begins_at_end()
+    ensures { answers (fleet_on junction (a ∷ c ∷ [])) (proposes r1 (a ∷ b ∷ []) ∷ replans r1 d ∷ proposes r1 (b ∷ c ∷ []) ∷ replans r1 b ∷ replans r1 d ∷ [])
+        ≡ merged_as 1 3 ∷ Replans (Err ReplanRefused.NoPending) ∷ deferred_by c r2 []
+        ∷ Replans (Err ReplanRefused.AtGoal) ∷ replanned_as 4 6 ∷ [] }
+{}
+
 /// Where no walk leads past the other robots' ends, a replan is refused.
 pub fn closed_bypass_has_no_detour()
     ensures { answers (fleet_on closed_bypass (b ∷ c ∷ [])) (past_each_other ++ replans r1 d ∷ [])
