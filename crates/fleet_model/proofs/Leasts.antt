@@ -1,5 +1,5 @@
 -- The least element of a list is one of it, and comes before each.
-use Rattle.std.proofs.Common.{◌≡◌, Bool, true, false, cond, ◌⊎◌, inl, inr, refl, sym, ap, ◌∙◌, List, [], ◌∷◌, Option, Some, None}
+use Rattle.std.proofs.Common.{◌≡◌, Bool, true, false, cond, ◌⊎◌, inl, inr, refl, sym, ◌∙◌, List, [], ◌∷◌, Option, Some, None}
 use Rattle.fleet_model.specs.Lists.{In, here, there, earlier, least}
 use Rattle.fleet_model.proofs.Lists.{In_either}
 

@@ -46,10 +46,13 @@ pub record Step (A E : Type 0) : Type 0 where
   pub entry : Option Entry
   pub after : State
 
--- a refusal adds no entry and leaves the state
-abbrev pub unless : {A E : Type 0} → Option E → State → Step A E → Step A E
-unless (Some e) s step = record { answer = Err e; entry = None; after = s }
-unless None s step = step
+abbrev pub unless_refused : {A E : Type 0} → Option E → State → Step A E → Step A E
+unless_refused (Some e) s step = record { answer = Err e; entry = None; after = s }
+unless_refused None s step = step
+
+-- the first refusal whose cause is there is the answer, adds no entry and leaves the state; where there is none the call is accepted
+abbrev pub unless : {A E : Type 0} → List (Option E) → State → Step A E → Step A E
+unless refusals s step = unless_refused (first_some refusals) s step
 
 -- an accepted call of robot r
 abbrev pub accepted : {A E : Type 0} → A → ℕ → Act → State → Step A E
@@ -97,8 +100,9 @@ abbrev pub propose_growth : State → List CellNo → Option Block → ℕ
 propose_growth s cells None = 1 + length (steps s.fleet.site cells)
 propose_growth s cells (Some block) = 2
 
-abbrev pub propose_refusal : State → ℕ → List CellNo → Option Block → Option ProposeRefused
-propose_refusal s r cells block = first_some (
+-- the refusals of a proposal, in order, each where its cause is there
+abbrev pub propose_refusals : State → ℕ → List CellNo → Option Block → List (Option ProposeRefused)
+propose_refusals s r cells block =
     when (not (is_robot s r)) propose_refused.UnknownRobot
     ∷ when (is_some (pending_of s r)) propose_refused.HasPending
     ∷ when (nat_lt (length cells) 2) propose_refused.Short
@@ -107,7 +111,7 @@ propose_refusal s r cells block = first_some (
     ∷ option_map (λ at. propose_refused.NoLink at) (unlinked_at s.fleet.site cells)
     ∷ when (not (begin_at (end_of s.fleet r) cells)) (propose_refused.BadStart (end_of s.fleet r))
     ∷ when (is_full s (propose_growth s cells block)) propose_refused.Full
-    ∷ [])
+    ∷ []
 
 abbrev pub propose_outcome : State → ℕ → List CellNo → Option Block → Step Proposed ProposeRefused
 propose_outcome s r cells None = accepted (proposed.Merged (span_of s cells)) r (act.Merged cells (first_of s)) (with_route s r cells)
@@ -117,56 +121,65 @@ propose_outcome s r cells (Some block) = accepted (proposed.Deferred block) r (a
 abbrev pub propose : State → ℕ → List CellNo → Step Proposed ProposeRefused
 propose s r cells =
     let block = block_of (deferring s r cells) r cells in
-    unless (propose_refusal s r cells block) s (propose_outcome s r cells block)
+    unless (propose_refusals s r cells block) s (propose_outcome s r cells block)
+
+abbrev pub retry_refusals : State → ℕ → List CellNo → List (Option RetryRefused)
+retry_refusals s r route =
+    when (not (is_robot s r)) retry_refused.UnknownRobot
+    ∷ when (is_none (pending_of s r)) retry_refused.NoPending
+    ∷ option_map (λ block. retry_refused.StillDeferred block) (block_of s r route)
+    ∷ when (is_full s (length (steps s.fleet.site route))) retry_refused.Full
+    ∷ []
 
 -- robot r tries its pending route again
 abbrev pub retry : State → ℕ → Step Span RetryRefused
 retry s r =
     let route = pending_route s r in
-    unless (first_some (
-        when (not (is_robot s r)) retry_refused.UnknownRobot
-        ∷ when (is_none (pending_of s r)) retry_refused.NoPending
-        ∷ option_map (λ block. retry_refused.StillDeferred block) (block_of s r route)
-        ∷ when (is_full s (length (steps s.fleet.site route))) retry_refused.Full
-        ∷ []))
-    s (accepted (span_of s route) r (act.Retried (first_of s)) (with_route s r route))
+    unless (retry_refusals s r route) s (accepted (span_of s route) r (act.Retried (first_of s)) (with_route s r route))
+
+abbrev pub cancel_refusals : State → ℕ → List (Option CancelRefused)
+cancel_refusals s r =
+    when (not (is_robot s r)) cancel_refused.UnknownRobot
+    ∷ when (is_none (pending_of s r)) cancel_refused.NoPending
+    ∷ []
 
 -- robot r drops its pending route
 abbrev pub cancel : State → ℕ → Step (Unit {0}) CancelRefused
-cancel s r =
-    unless (first_some (
-        when (not (is_robot s r)) cancel_refused.UnknownRobot
-        ∷ when (is_none (pending_of s r)) cancel_refused.NoPending
-        ∷ []))
-    s (accepted tt r act.Canceled (moved s s.fleet r None))
+cancel s r = unless (cancel_refusals s r) s (accepted tt r act.Canceled (moved s s.fleet r None))
+
+abbrev pub withdraw_refusals : State → ℕ → List Event → List (Option WithdrawRefused)
+withdraw_refusals s r tail =
+    when (not (is_robot s r)) withdraw_refused.UnknownRobot
+    ∷ when (length tail == 0) withdraw_refused.Nothing
+    ∷ []
 
 -- robot r takes its removable tail back and drops its pending route
 abbrev pub withdraw : State → ℕ → Step Withdrawn WithdrawRefused
 withdraw s r =
     let tail = removable_tail s.fleet r in
     let fleet = withdrawn s.fleet tail in
-    unless (first_some (
-        when (not (is_robot s r)) withdraw_refused.UnknownRobot
-        ∷ when (length tail == 0) withdraw_refused.Nothing
-        ∷ []))
+    unless (withdraw_refusals s r tail)
     s (accepted (record { removed = length tail; end = end_of fleet r }) r (act.Withdrawn (length tail) (end_of fleet r)) (moved s fleet r None))
 
 -- the detour of robot r: the least route from its end to the goal past the cells that are shut to it
 abbrev pub detour_of : Fleet → ℕ → (CellNo → Bool) → Option (List CellNo)
 detour_of m r goal = least_route m.site goal (is_shut_to m r) (end_of m r)
 
+abbrev pub replan_refusals : State → ℕ → (CellNo → Bool) → Option (List CellNo) → List (Option ReplanRefused)
+replan_refusals s r goal detour =
+    when (not (is_robot s r)) replan_refused.UnknownRobot
+    ∷ when (is_none (pending_of s r)) replan_refused.NoPending
+    ∷ when (goal (end_of s.fleet r)) replan_refused.AtGoal
+    ∷ when (is_none detour) replan_refused.NoDetour
+    ∷ when (is_full s (length (steps s.fleet.site (unwrap_or detour [])))) replan_refused.Full
+    ∷ []
+
 -- robot r replaces its pending route by the detour to a goal
 abbrev pub replan : State → ℕ → (CellNo → Bool) → Step Span ReplanRefused
 replan s r goal =
     let detour = detour_of s.fleet r goal in
     let route = unwrap_or detour [] in
-    unless (first_some (
-        when (not (is_robot s r)) replan_refused.UnknownRobot
-        ∷ when (is_none (pending_of s r)) replan_refused.NoPending
-        ∷ when (goal (end_of s.fleet r)) replan_refused.AtGoal
-        ∷ when (is_none detour) replan_refused.NoDetour
-        ∷ when (is_full s (length (steps s.fleet.site route))) replan_refused.Full
-        ∷ []))
+    unless (replan_refusals s r goal detour)
     s (accepted (span_of s route) r (act.Replanned route (first_of s)) (with_route s r route))
 
 -- the first unfinished event of robot r
@@ -185,15 +198,18 @@ is_number (Some e) n = e.no.0 == n.0
 abbrev pub reported : Fleet → Option Event → Fleet
 reported m event = record m { finished = m.finished ++ option_to_list event }
 
+abbrev pub report_refusals : State → ℕ → EventNo → Option Event → List (Option ReportRefused)
+report_refusals s r n next =
+    when (not (is_robot s r)) report_refused.UnknownRobot
+    ∷ when (not (is_number next n)) (report_refused.NotNext (option_map (λ e. e.no) next))
+    ∷ option_map (λ on. report_refused.Early on) (option_and_then (waits_on s.fleet) next)
+    ∷ []
+
 -- robot r reports its next event
 abbrev pub report : State → ℕ → EventNo → Step (Unit {0}) ReportRefused
 report s r n =
     let next = next_event s.fleet r in
-    unless (first_some (
-        when (not (is_robot s r)) report_refused.UnknownRobot
-        ∷ when (not (is_number next n)) (report_refused.NotNext (option_map (λ e. e.no) next))
-        ∷ option_map (λ on. report_refused.Early on) (option_and_then (waits_on s.fleet) next)
-        ∷ []))
+    unless (report_refusals s r n next)
     s (accepted tt r (act.Reported n) (record s { fleet = reported s.fleet next; count = s.count + 1 }))
 
 abbrev pub look_at_event : Event → Option EventNo → EventLook
@@ -220,7 +236,7 @@ look_of s r = record {
 
 -- what robot r sees; a look adds no entry and leaves the state
 abbrev pub look : State → ℕ → Step Look UnknownRobot
-look s r = unless (when (not (is_robot s r)) (record {})) s (record { answer = Ok (look_of s r); entry = None; after = s })
+look s r = unless (when (not (is_robot s r)) (record {}) ∷ []) s (record { answer = Ok (look_of s r); entry = None; after = s })
 
 -- the calls of a robot; the goal of a replan is any of the cells
 pub data Call : Type 0 where

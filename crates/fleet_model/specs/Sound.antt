@@ -1,7 +1,7 @@
 -- What a journal keeps at each of its places.
 use Rattle.std.specs.Prelude.{◌≡◌, ◌≢◌, ◌↔◌, ℕ, Bool, true, false, ◌⊎◌, List, [], ◌∷◌, ◌++◌}
 use Rattle.fleet_base.specs.declared.entries.Act.{Act}
-use Rattle.fleet_base.specs.declared.entries.Act.TheVariants.{Merged, Deferred, Retried, Canceled, Withdrawn, Replanned, Reported}
+use Rattle.fleet_base.specs.declared.entries.Act.TheVariants.{Merged, Deferred, Retried, Canceled, Withdrawn, Replanned}
 use Rattle.fleet_base.specs.declared.entries.Entry.{Entry}
 use Rattle.fleet_base.specs.declared.numbers.CellNo.{CellNo}
 use Rattle.fleet_base.specs.declared.numbers.Event.{Event}
@@ -22,32 +22,26 @@ IsCycle s (r ∷ rs) = is_cycle (is_deferred_on s) r (r ∷ rs) ≡ true
 -- the act is a merge
 abbrev pub IsMerge : Act → Type 0
 IsMerge (Merged route first) = Unit {0}
-IsMerge (Deferred route cycle) = ⊥
 IsMerge (Retried first) = Unit {0}
-IsMerge Canceled = ⊥
-IsMerge (Withdrawn removed end) = ⊥
 IsMerge (Replanned route first) = Unit {0}
-IsMerge (Reported event) = ⊥
+IsMerge _ = ⊥
 
 -- the act may end a cycle that its robot is in
 abbrev pub IsChange : Act → Type 0
-IsChange (Merged route first) = ⊥
-IsChange (Deferred route cycle) = ⊥
-IsChange (Retried first) = ⊥
 IsChange Canceled = Unit {0}
 IsChange (Withdrawn removed end) = Unit {0}
 IsChange (Replanned route first) = Unit {0}
-IsChange (Reported event) = ⊥
+IsChange _ = ⊥
 
 -- the act is a deferral
 abbrev pub IsDeferral : Act → Type 0
-IsDeferral (Merged route first) = ⊥
 IsDeferral (Deferred route cycle) = Unit {0}
-IsDeferral (Retried first) = ⊥
-IsDeferral Canceled = ⊥
-IsDeferral (Withdrawn removed end) = ⊥
-IsDeferral (Replanned route first) = ⊥
-IsDeferral (Reported event) = ⊥
+IsDeferral _ = ⊥
+
+-- the act is a withdrawal
+abbrev pub IsWithdrawal : Act → Type 0
+IsWithdrawal (Withdrawn removed end) = Unit {0}
+IsWithdrawal _ = ⊥
 
 -- no member cancels, withdraws or replans
 abbrev pub IsTrueTo : List ℕ → List Entry → Type 0
@@ -64,7 +58,7 @@ CanInsert s r route = (pairs : Insertion) × IsInsertion s.fleet (route_events s
 -- at this state: every allowed order is safe, and where an event is unfinished, some event is ready
 pub record IsSoundState (s : State) : Type 0 where
   pub safe : IsSafe s.fleet
-  pub ready : (e : Event) → In e s.fleet.plan → is_done s.fleet.finished e ≡ false → (f : Event) × IsReady (IsBehind s.fleet.site) s.fleet.plan s.fleet.finished f
+  pub ready : (e : Event) → In e s.fleet.plan → is_done s.fleet.finished e ≡ false → (f : Event) × IsReady (IsBehind s.fleet.site.groups) s.fleet.plan s.fleet.finished f
 
 -- the entry at this state: a merge removes no allowed order, and a proposal is deferred exactly where no insertion of it is safe; the deferral names a cycle exactly where there is one through its robot
 pub record IsSoundEntry (s : State) (entry : Entry) : Type 0 where

@@ -5,9 +5,10 @@ use Rattle.std.specs.Option.{is_some, is_none, option_map, option_and_then, unwr
 use Rattle.fleet_base.specs.Lists.{robots_of}
 use Rattle.fleet_base.specs.declared.answers.Block.{Block}
 use Rattle.fleet_base.specs.declared.numbers.CellNo.{CellNo}
+use Rattle.fleet_base.specs.declared.numbers.ClaimNo.{ClaimNo}
 use Rattle.fleet_model.specs.Lists.{when, first_some, numbers_below}
 use Rattle.fleet_model.specs.Sites.{Site, cell_count, is_linked, needs, steps}
-use Rattle.fleet_model.specs.Plans.{Fleet, unfinished, own, awaited, latest, cell_of, end_of, merged, removable_tail, withdrawn}
+use Rattle.fleet_model.specs.Plans.{Fleet, IsBlocker, unfinished}
 use Rattle.fleet_model.specs.Cycles.{cycle_through}
 use Rattle.fleet_model.specs.Deferral.{ends, is_kept_by, least_blocker, is_shut_to}
 
@@ -40,13 +41,20 @@ pending_route s r = unwrap_or (pending_of s r) []
 
 -- what is owed: the unfinished events and the pending routes
 abbrev pub owed : State → ℕ
-owed s = length (unfinished s.fleet) + count_by is_some s.pending
+owed s = length (unfinished s.fleet) + length (filter is_some s.pending)
 
 -- an outcome by which entries and what is owed grow by so much would go above the cap
 abbrev pub is_full : State → ℕ → Bool
 is_full s growth = nat_lt s.cap (s.count + owed s + growth)
 
--- robot r has a pending route, and robot q is in a blocker of it
+-- robot r has a route pending that robot q blocks
+pub record IsDeferredOn (s : State) (r q : ℕ) : Type 0 where
+  pub route : List CellNo
+  pub pending : pending_of s r ≡ Some route
+  pub claim : ClaimNo
+  pub blocker : IsBlocker s.fleet r route claim q
+
+-- whether it is so, as a test
 abbrev pub is_deferred_on : State → ℕ → ℕ → Bool
 is_deferred_on s r q =
     not (q == r) && list_any (λ c. is_kept_by s.fleet.site c (slice_get (ends s.fleet) q)) (needs s.fleet.site (pending_route s r))

@@ -213,15 +213,15 @@ pub fn crossing_is_kept_inside()
 
 /// A crossing of two flows: a robot of one flow waits for one of the other.
 pub fn flows_keep_each_other_out()
-    ensures other { in_conflict yard.with_two_flows (claim yard.x) (claim yard.y) ≡ true }
-    ensures same { in_conflict yard.with_two_flows (claim yard.x) (claim yard.x) ≡ false }
+    ensures other { in_conflict yard.with_two_flows.groups (claim yard.x) (claim yard.y) ≡ true }
+    ensures same { in_conflict yard.with_two_flows.groups (claim yard.x) (claim yard.x) ≡ false }
     ensures answers { answers (yard.two_in yard.with_two_flows) (yard.both_through ++ reports r2 9 ∷ reports r2 10 ∷ []) ≡ merged_as 1 8 ∷ merged_as 9 16 ∷ reported ∷ too_early 8 ∷ [] }
     ensures waits { waits (after_calls (yard.two_in yard.with_two_flows) yard.both_through) ≡ (10, 8) ∷ [] }
 {}
 
 /// A crossing of one flow: two robots of that flow are in it at once.
 pub fn one_flow_takes_two_robots()
-    ensures same { in_conflict yard.with_one_flow (claim yard.x) (claim yard.x) ≡ false }
+    ensures same { in_conflict yard.with_one_flow.groups (claim yard.x) (claim yard.x) ≡ false }
     ensures waits { waits (after_calls (yard.two_in yard.with_one_flow) yard.both_through) ≡ [] }
     ensures answers { answers (yard.two_in yard.with_one_flow) yard.both_inside ≡ merged_as 1 8 ∷ merged_as 9 16 ∷ reported_times 6 }
     ensures places { places (after_calls (yard.two_in yard.with_one_flow) yard.both_inside) ≡ cells (yard.p ∷ yard.q ∷ []) }
