@@ -121,6 +121,18 @@ closed_bypass = record {
   groups = alone 5;
 }
 
+-- the claim of the tunnel's crossing
+abbrev pub inside : ℕ
+inside = 5
+
+-- the tunnel: the closed bypass with a crossing of b and c
+abbrev pub tunnel : Site
+tunnel = record {
+  links = closed_bypass.links;
+  footprints = (claim a ∷ []) ∷ (claim b ∷ claim inside ∷ []) ∷ (claim c ∷ claim inside ∷ []) ∷ (claim d ∷ []) ∷ (claim e ∷ []) ∷ [];
+  groups = alone 6;
+}
+
 -- the square: cells a b c d; links of cost 1 from a to b, a to c, b to d and c to d, and of cost 3 from a to d
 abbrev pub square : Site
 square = record {

@@ -11,7 +11,7 @@ ghost use Rattle.fleet_model.specs.Cycles.{cycle_through};
 ghost use Rattle.fleet_model.specs.Deferral.{ends, block_precedes};
 ghost use Rattle.fleet_model.specs.States.{start_state, owed, cycle_of};
 ghost use Rattle.fleet_model.specs.Calls.{answers, entries_of, after_calls, Proposes, Retries, Cancels, Withdraws, Replans, Reports, Looks};
-ghost use Rattle.fleet_model.specs.Examples.{a, b, c, d, e, r1, r2, r3, cell, cells, claim, claims, event, robot, block, junction, bypass, closed_bypass, square, fleet_on, route_past, relates};
+ghost use Rattle.fleet_model.specs.Examples.{a, b, c, d, e, r1, r2, r3, cell, cells, claim, claims, event, robot, block, junction, bypass, closed_bypass, tunnel, inside, square, fleet_on, route_past, relates};
 ghost use Rattle.fleet_model.specs.Examples.{proposes, retries, cancels, withdraws, replans, reports, reports_all, looks};
 ghost use Rattle.fleet_model.specs.Examples.{merged_as, deferred_by, retried_as, still_deferred, canceled, withdrawn_to, replanned_as, reported, reported_times, too_early};
 ghost use Rattle.fleet_model.specs.Examples.{acquires, moves, releases, entry, places, holds, waits};
@@ -167,6 +167,14 @@ pub fn detour_ends_cycle()
     ensures waits { waits (after_calls (fleet_on bypass (b ∷ c ∷ [])) by_the_detour) ≡ (7, 3) ∷ [] }
 {}
 
+/// A replan is for a pending route, and leads on from the robot's end, also where the robot isn't
+/// there yet.
+pub fn replan_begins_at_end()
+    ensures { answers (fleet_on junction (a ∷ c ∷ [])) (proposes r1 (a ∷ b ∷ []) ∷ replans r1 d ∷ proposes r1 (b ∷ c ∷ []) ∷ replans r1 b ∷ replans r1 d ∷ [])
+        ≡ merged_as 1 3 ∷ Replans (Err ReplanRefused.NoPending) ∷ deferred_by c r2 []
+        ∷ Replans (Err ReplanRefused.AtGoal) ∷ replanned_as 4 6 ∷ [] }
+{}
+
 /// Where no walk leads past the other robots' ends, a replan is refused.
 pub fn closed_bypass_has_no_detour()
     ensures { answers (fleet_on closed_bypass (b ∷ c ∷ [])) (past_each_other ++ replans r1 d ∷ [])
@@ -193,6 +201,14 @@ pub fn crossing_is_for_one_robot()
         ≡ acquires 1 r1 yard.p ∷ acquires 2 r1 yard.x ∷ moves 3 r1 yard.a yard.p ∷ releases 4 r1 yard.a
         ∷ acquires 5 r1 yard.b ∷ moves 6 r1 yard.p yard.b ∷ releases 7 r1 yard.p ∷ releases 8 r1 yard.x ∷ [] }
     ensures waits { waits (after_calls (yard.two_in yard.site) yard.both_through) ≡ (10, 8) ∷ [] }
+{}
+
+/// A step from cell to cell inside a crossing neither acquires nor releases the crossing.
+pub fn crossing_is_kept_inside()
+    ensures { (after_calls (fleet_on tunnel (a ∷ [])) (proposes r1 (a ∷ b ∷ c ∷ d ∷ []) ∷ [])).fleet.plan
+        ≡ acquires 1 r1 b ∷ acquires 2 r1 inside ∷ moves 3 r1 a b ∷ releases 4 r1 a
+        ∷ acquires 5 r1 c ∷ moves 6 r1 b c ∷ releases 7 r1 b
+        ∷ acquires 8 r1 d ∷ moves 9 r1 c d ∷ releases 10 r1 c ∷ releases 11 r1 inside ∷ [] }
 {}
 
 /// A crossing of two flows: a robot of one flow waits for one of the other.
