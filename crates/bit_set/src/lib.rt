@@ -8,7 +8,7 @@ ghost use Rattle.std.specs.FinSet as set;
 use std::marker::Model;
 
 /// A set of numbers below 64 times `WORDS`, kept as one bit for each number. It takes no memory.
-#[derive(Drop)]
+#[derive(Clone, Copy)]
 pub struct BitSet<const WORDS: usize> {
     words: [u64; WORDS],
 }
@@ -17,13 +17,20 @@ impl<const WORDS: usize> Model for BitSet<WORDS> {
     ghost use Rattle.std.specs.Ordering.{nat_cmp};
     ghost use Rattle.std.specs.FinSet as set;
     ghost use Rattle.std.specs.Coded.{coded_ℕ};
-    ghost use Rattle.bit_set.specs.Words.{members_of};
+    ghost use Rattle.bit_set.specs.Words.{AreWords, members_of, words_of};
+    ghost use Rattle.bit_set.specs.GivenBack.{words_of-members_of};
 
     ghost Value = { set.FinSet nat_cmp };
 
     ghost coded = { set.code coded_ℕ };
 
     ghost view = { λ s. members_of s.words };
+
+    ghost invariant = { λ s. AreWords WORDS s.words };
+
+    ghost inverse = { λ numbers. record { words = words_of WORDS numbers } };
+
+    ghost inverse_ok = { λ s are i. record { words = words_of-members_of WORDS s.words are i } };
 }
 
 impl<const WORDS: usize> BitSet<WORDS> {
@@ -99,7 +106,9 @@ mod tests {
         set.insert(127);
         set.insert(64);
         set.insert(3);
+        let with_three = set;
         set.remove(3);
+        assert!(rt; with_three.contains(3));
         assert!(rt; !set.is_empty());
         assert_eq!(rt; set.first(), Some(64));
         for (number, there) in [

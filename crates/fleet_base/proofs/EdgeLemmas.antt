@@ -3,7 +3,7 @@ use Rattle.std.proofs.Common.{◌≡◌, ℕ, ◌<◌, Bool, true, false, cond, 
 use Rattle.std.specs.Ordering.{nat_cmp}
 use Rattle.std.specs.FinSet.{FinSet, empty, contains, insert, remove, contains-empty}
 use Rattle.std.proofs.lemmas.Bool.{lt-ltb, le-ltb, eq-eqb, ne_eqb, cases_eq, cases_lt, and_right, cond-false}
-use Rattle.bit_set.proofs.Members.{contains-insert_nat, contains-remove_nat}
+use Rattle.bit_set.specs.Marks.{contains-insert_nat, contains-remove_nat}
 use Rattle.fleet_base.specs.EdgeSets.{edge_place, leads}
 
 -- where there are no edges, none leads anywhere

@@ -10,8 +10,9 @@ use std::marker::Model;
 
 /// A set of claims, each with a number below 1,280. It takes no memory. Contracts see the set of
 /// the claims' numbers.
-#[derive(Drop)]
+#[derive(Clone, Copy)]
 pub struct ClaimSet {
+    // One bit for each of 1,280 claims.
     numbers: BitSet<20>,
 }
 
@@ -25,6 +26,8 @@ impl Model for ClaimSet {
     ghost coded = { set.code coded_ℕ };
 
     ghost view = { λ s. s.numbers };
+
+    ghost inverse = { λ numbers. record { numbers = numbers } };
 }
 
 impl ClaimSet {

@@ -10,8 +10,9 @@ use std::marker::Model;
 
 /// Edges between robots with numbers below 64: from each robot to each, itself too, an edge leads
 /// or not. It takes no memory.
-#[derive(Drop)]
+#[derive(Clone, Copy)]
 pub struct Edges {
+    // A row of 64 bits for each robot that edges lead from.
     rows: BitSet<64>,
 }
 
@@ -25,6 +26,8 @@ impl Model for Edges {
     ghost coded = { set.code coded_ℕ };
 
     ghost view = { λ e. e.rows };
+
+    ghost inverse = { λ places. record { rows = places } };
 }
 
 impl Edges {

@@ -1,6 +1,7 @@
 use Rattle.std.proofs.Common.{ap, sym, subst, ◌∙◌, ◌*◌, ◌<◌}
 use Rattle.std.specs.FinSet.{contains}
-use Rattle.bit_set.proofs.Members.{is_marked-and, contains-members_of, members_of-below}
+use Rattle.bit_set.specs.Marks.{contains-members_of, members_of-below}
+use Rattle.bit_set.proofs.Members.{is_marked-and}
 use Rattle.bit_set.proofs.BitSet.contains.Goals as goal
 
 pub returns-clause-found : goal.returns-clause-found
