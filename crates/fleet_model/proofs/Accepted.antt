@@ -1,13 +1,13 @@
 -- What is known of an accepted call: what it did to the state, and what its entry tells.
-use Rattle.std.proofs.Common.{zero, suc, ◌≡◌, ℕ, ◌+◌, ◌<◌, ◌≤◌, Bool, true, false, not, ◌==◌, cond, ◌⊎◌, inl, inr, refl, sym, ap, ◌∙◌, subst, List, [], ◌∷◌, ◌++◌, length, arith, Option, Some, None, set, get_or}
-use Rattle.std.proofs.lemmas.Bool.{both_ways, cases_Bool, not_from_true, not-true, not-false, not_from_false, ltb-true, ltb-false, eqb-true, eqb-false}
+use Rattle.std.proofs.Common.{zero, suc, ◌≡◌, ℕ, ◌+◌, ◌<◌, ◌≤◌, Bool, true, false, not, ◌==◌, ◌⊎◌, inl, inr, refl, sym, ap, ◌∙◌, subst, List, [], ◌∷◌, ◌++◌, length, arith, Option, Some, None}
+use Rattle.std.proofs.lemmas.Bool.{both_ways, cases_Bool, not_from_true, not-true, not-false, not_from_false, ltb-true, ltb-false, eqb-true}
 use Rattle.std.proofs.lemmas.Option.{same_Some}
-use Rattle.std.specs.Prelude.{slice_get, slice_set, nat_lt, nat_le, Ok}
+use Rattle.std.specs.Prelude.{slice_get, nat_lt, nat_le, Ok}
 use Rattle.std.specs.List.{filter}
 use Rattle.std.proofs.lemmas.List.{length-append}
 use Rattle.std.proofs.lemmas.List.Elements.{filter-append}
 use Rattle.std.proofs.lemmas.List.Sums.{length-filter, count_by-le-length}
-use Rattle.std.specs.Option.{is_some, is_none, option_map, option_to_list, option_and_then, unwrap_or}
+use Rattle.std.specs.Option.{is_some, is_none, option_map, option_and_then, unwrap_or}
 use Rattle.fleet_base.specs.Lists.{robots_of}
 use Rattle.fleet_base.specs.declared.entries.Act.{Act}
 use Rattle.fleet_base.specs.declared.entries.Act.TheVariants.{Merged, Deferred, Retried, Canceled, Withdrawn, Replanned, Reported}
@@ -27,16 +27,16 @@ use Rattle.fleet_base.specs.declared.numbers.ClaimNo.{ClaimNo}
 use Rattle.fleet_base.specs.declared.numbers.Event.{Event}
 use Rattle.fleet_base.specs.declared.numbers.EventNo.{EventNo}
 use Rattle.fleet_base.specs.declared.numbers.Kind.{Kind}
-use Rattle.fleet_model.specs.Lists.{In, here, there, when, first_some, least}
+use Rattle.fleet_model.specs.Lists.{In, here, when, first_some}
 use Rattle.fleet_model.specs.Sites.{Site, IsSite, is_linked, IsWalk, IsWalkFrom, needs, steps}
 use Rattle.fleet_model.specs.Plans.{Fleet, own, unfinished, is_done, is_awaited, after, awaited, latest, IsBehind, IsReady, IsRoute, IsBlocker, end_of, merged, numbered, route_events, removable_tail, withdrawn}
 use Rattle.fleet_model.specs.Deferral.{ends, least_blocker}
 use Rattle.fleet_model.specs.States.{State, is_robot, pending_of, pending_route, owed, is_full, cycle_of, block_of}
-use Rattle.fleet_model.specs.Calls.{Step, unless, unless_refused, propose_refusals, retry_refusals, cancel_refusals, withdraw_refusals, replan_refusals, report_refusals, accepted, moved, with_route, deferring, first_of, first_unlinked, unlinked_at, begin_at, propose_growth, propose_outcome, propose, detour_of, next_event, waits_on, is_number, reported, span_of, retry, cancel, withdraw, replan, report, look_of, Call, Propose, Retry, Cancel, Withdraw, Replan, Report, LookAt, Turn, turn, has_cell}
+use Rattle.fleet_model.specs.Calls.{Step, unless, unless_refused, propose_refusals, retry_refusals, cancel_refusals, withdraw_refusals, replan_refusals, report_refusals, accepted, moved, with_route, deferring, first_of, first_unlinked, unlinked_at, begin_at, propose_growth, propose_outcome, propose, detour_of, next_event, waits_on, is_number, reported, span_of, retry, cancel, withdraw, replan, report, look_of, Call, Propose, Retry, Cancel, Withdraw, Replan, Report, LookAt, turn, has_cell}
 use Rattle.fleet_model.specs.Good.{IsAscending, IsGoodPlan, IsGood}
 use Rattle.fleet_model.proofs.Lists.{In-nil, In_either, In-append_right, In-filter, In_unfilter}
 use Rattle.fleet_model.proofs.Numbers.{from_one, IsAscending-own, IsAscending-filter, own_In, In_own, low_bound, done_in, done_right, done_parts}
-use Rattle.fleet_model.proofs.Counts.{emptied_le, emptied_less, filled_le, filter_le, filter_less, filter_misses}
+use Rattle.fleet_model.proofs.Counts.{emptied_le, emptied_less, filled_le, filter_less, filter_misses}
 use Rattle.fleet_model.proofs.Leasts.{least_none}
 use Rattle.fleet_model.proofs.Detours.{detour_route, detour_free}
 use Rattle.fleet_model.proofs.Tails.{tail_is}

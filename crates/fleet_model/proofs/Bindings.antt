@@ -1,5 +1,5 @@
 -- Cycles of deferral last, and stood since the last deferral of a member.
-use Rattle.std.proofs.Common.{zero, suc, ◌≡◌, ℕ, ◌+◌, Bool, true, false, ◌==◌, ◌⊎◌, inl, inr, refl, sym, ap, ◌∙◌, subst, List, [], ◌∷◌, ◌++◌, Option, Some, None, set, get_or}
+use Rattle.std.proofs.Common.{◌≡◌, ℕ, true, inl, inr, refl, sym, ap, ◌∙◌, subst, List, [], ◌∷◌, Option, Some, None, set, get_or}
 use Rattle.std.proofs.lemmas.List.{get_or-set_other}
 use Rattle.std.proofs.lemmas.Option.{same_Some}
 use Rattle.std.specs.Prelude.{slice_get}
@@ -7,15 +7,13 @@ use Rattle.fleet_base.specs.declared.entries.Act.{Act}
 use Rattle.fleet_base.specs.declared.entries.Act.TheVariants.{Merged, Deferred, Retried, Canceled, Withdrawn, Replanned, Reported}
 use Rattle.fleet_base.specs.declared.entries.Entry.{Entry}
 use Rattle.fleet_base.specs.declared.numbers.CellNo.{CellNo}
-use Rattle.fleet_base.specs.declared.numbers.ClaimNo.{ClaimNo}
 use Rattle.fleet_base.specs.declared.numbers.Event.{Event}
 use Rattle.fleet_base.specs.declared.numbers.EventNo.{EventNo}
 use Rattle.fleet_base.specs.declared.numbers.Kind.TheVariants.{Acquire}
 use Rattle.fleet_model.specs.Lists.{In, here, there}
 use Rattle.fleet_model.specs.Sites.{IsSite, in_conflict, footprint_of, has_claim, steps}
-use Rattle.fleet_model.specs.Plans.{Fleet, IsBlocker, end_of, merged, removable_tail, withdrawn}
-use Rattle.fleet_model.specs.Cycles.{is_cycle}
-use Rattle.fleet_model.specs.States.{State, pending_of, IsDeferredOn, is_deferred_on}
+use Rattle.fleet_model.specs.Plans.{IsBlocker, end_of}
+use Rattle.fleet_model.specs.States.{State, pending_of, IsDeferredOn}
 use Rattle.fleet_model.specs.Good.{IsGoodPlan, IsGood}
 use Rattle.fleet_model.specs.Journals.{turn_at, IsJournal, state_after}
 use Rattle.fleet_model.specs.Sound.{IsCycle, IsChange, IsDeferral, IsTrueTo, NoneDefers}

@@ -8,7 +8,7 @@ use Rattle.fleet_base.specs.declared.numbers.ClaimGroup.{ClaimGroup}
 use Rattle.fleet_base.specs.declared.numbers.ClaimNo.{ClaimNo}
 use Rattle.fleet_base.specs.declared.numbers.Event.{Event}
 use Rattle.fleet_model.specs.Lists.{In}
-use Rattle.fleet_model.specs.Sites.{in_conflict, footprint_of, Site, IsSite, has_claim}
+use Rattle.fleet_model.specs.Sites.{in_conflict, footprint_of, IsSite, has_claim}
 use Rattle.fleet_model.specs.Replays.{opening, after_kinds}
 use Rattle.fleet_model.specs.Plans.{Fleet, after, own, kinds, is_done, is_awaited, IsReady, IsBehind, end_of, merged, withdrawn}
 use Rattle.fleet_model.specs.Good.{IsGoodPlan, Opens, Closes}

@@ -1,22 +1,16 @@
 -- Each accepted call keeps a state good.
-use Rattle.std.proofs.Common.{zero, suc, ◌≡◌, ◌≢◌, ℕ, ◌+◌, ◌*◌, ◌<◌, ◌≤◌, true, ◌⊎◌, inl, inr, refl, sym, ap, ◌∙◌, subst, List, [], ◌∷◌, ◌++◌, length, arith, Option, Some, None, set, get_or}
-use Rattle.std.proofs.lemmas.Bool.{cases_eq}
+use Rattle.std.proofs.Common.{zero, suc, ◌≡◌, ◌≢◌, ℕ, ◌+◌, ◌*◌, ◌≤◌, true, ◌⊎◌, inl, inr, refl, sym, ap, ◌∙◌, subst, List, [], ◌∷◌, ◌++◌, length, arith, Option, Some, None, set, get_or}
 use Rattle.std.proofs.lemmas.List.{length-set}
 use Rattle.std.proofs.lemmas.Option.{same_Some}
 use Rattle.std.specs.Prelude.{slice_get}
-use Rattle.std.specs.List.{filter}
-use Rattle.std.specs.Option.{is_some}
-use Rattle.fleet_base.specs.declared.entries.Act.{Act}
 use Rattle.fleet_base.specs.declared.entries.Entry.{Entry}
 use Rattle.fleet_base.specs.declared.numbers.CellNo.{CellNo}
 use Rattle.fleet_base.specs.declared.numbers.ClaimNo.{ClaimNo}
 use Rattle.fleet_base.specs.declared.numbers.Event.{Event}
-use Rattle.fleet_model.specs.Lists.{In}
-use Rattle.fleet_model.specs.Sites.{Site, IsSite, in_conflict, steps}
-use Rattle.fleet_model.specs.Replays.{AreSteps, opening}
+use Rattle.fleet_model.specs.Sites.{Site, IsSite, in_conflict}
+use Rattle.fleet_model.specs.Replays.{AreSteps}
 use Rattle.fleet_model.specs.Plans.{Fleet, IsReady, IsBehind, IsRoute, end_of, merged, removable_tail, withdrawn}
 use Rattle.fleet_model.specs.States.{State, opening_state, pending_of, owed}
-use Rattle.fleet_model.specs.Calls.{Call, turn, has_cell}
 use Rattle.fleet_model.specs.Good.{IsGoodPlan, IsGood, IsOpening, Opens}
 use Rattle.fleet_model.specs.Journals.{turn_at, call_of, IsJournal, state_after}
 use Rattle.fleet_model.proofs.Ends.{merged_end, route_still}

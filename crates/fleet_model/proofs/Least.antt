@@ -10,7 +10,7 @@ use Rattle.fleet_base.specs.declared.numbers.Event.{Event}
 use Rattle.fleet_base.specs.declared.numbers.Kind.{Kind}
 use Rattle.fleet_base.specs.declared.numbers.Kind.TheVariants.{Acquire, Move, Release}
 use Rattle.fleet_model.specs.Lists.{In, here, there}
-use Rattle.fleet_model.specs.Sites.{in_conflict, Site, IsSite, steps}
+use Rattle.fleet_model.specs.Sites.{in_conflict, IsSite, steps}
 use Rattle.fleet_model.specs.Plans.{Fleet, after, is_done, clashes, is_awaited, IsBehind, IsReady, IsOrder, IsAllowed, route_events, merged, IsBlocker, Insertion, IsInsertion, IsBehindBy, IsAllowedBy, IsSafeInsertion, IsRoute}
 use Rattle.fleet_model.specs.Good.{IsGoodPlan}
 use Rattle.fleet_model.proofs.Lists.{In_equal, In-append_left, In-append_right, In-append_cases, In-filter, In_unfilter, In-map, In_unmap}

@@ -1,10 +1,9 @@
 -- A ready event may be reported, and stays ready.
-use Rattle.std.proofs.Common.{zero, suc, ◌≡◌, ◌≢◌, ℕ, ◌+◌, ◌<◌, ◌≤◌, Bool, true, false, not, ◌==◌, ◌⊎◌, inl, inr, refl, sym, ap, ◌∙◌, subst, List, [], ◌∷◌, ◌++◌, length, map, arith, eq-eqb, Option, Some, None}
-use Rattle.std.proofs.lemmas.Bool.{both_ways, cases_Bool, not-true, not_from_true, not_from_false, lt-ltb}
+use Rattle.std.proofs.Common.{◌≡◌, ◌≢◌, ℕ, ◌+◌, ◌<◌, Bool, true, not, inl, inr, refl, sym, ap, ◌∙◌, subst, List, [], ◌∷◌, length, arith, eq-eqb, Option, Some, None}
+use Rattle.std.proofs.lemmas.Bool.{both_ways, not-true, not_from_false, lt-ltb}
 use Rattle.std.proofs.lemmas.Option.{slice_get_within}
-use Rattle.std.specs.Prelude.{slice_get, nat_lt}
-use Rattle.std.specs.List.{filter}
-use Rattle.std.specs.Option.{option_map, option_and_then}
+use Rattle.std.specs.Prelude.{slice_get}
+use Rattle.std.specs.Option.{option_map}
 use Rattle.fleet_base.specs.declared.answers.ReportRefused.{ReportRefused}
 use Rattle.fleet_base.specs.declared.answers.ReportRefused.TheVariants as report_refused
 use Rattle.fleet_base.specs.declared.entries.Act.{Act}
@@ -14,12 +13,12 @@ use Rattle.fleet_base.specs.declared.numbers.CellNo.{CellNo}
 use Rattle.fleet_base.specs.declared.numbers.Event.{Event}
 use Rattle.fleet_base.specs.declared.numbers.EventNo.{EventNo}
 use Rattle.fleet_base.specs.declared.numbers.Kind.{Kind}
-use Rattle.fleet_model.specs.Lists.{In, here, there, when, first_some}
+use Rattle.fleet_model.specs.Lists.{In, here, when, first_some}
 use Rattle.fleet_model.specs.Sites.{IsSite}
 use Rattle.fleet_model.specs.Replays.{AreSteps}
-use Rattle.fleet_model.specs.Plans.{Fleet, own, kinds, unfinished, is_done, is_awaited, after, awaited, latest, IsBehind, IsReady, IsOrder, IsAllowed}
+use Rattle.fleet_model.specs.Plans.{Fleet, own, kinds, unfinished, is_done, is_awaited, after, awaited, latest, IsBehind, IsReady, IsAllowed}
 use Rattle.fleet_model.specs.States.{State, is_robot}
-use Rattle.fleet_model.specs.Calls.{Step, unless, unless_refused, report_refusals, report, accepted, reported, next_event, waits_on, is_number}
+use Rattle.fleet_model.specs.Calls.{unless, unless_refused, report_refusals, report, accepted, reported, next_event, waits_on, is_number}
 use Rattle.fleet_model.specs.Good.{IsAscending, IsGoodPlan, IsGood}
 use Rattle.fleet_model.specs.Journals.{turn_at, IsJournal, report_entries}
 use Rattle.fleet_model.specs.Sound.{IsWithdrawal}
@@ -50,12 +49,12 @@ ready_next m e good ready = first (own e.robot.0 (unfinished m)) refl
         In_either (subst (λ es. In e es) h left)
         (λ k. ap (λ x. Some x) (sym k))
         (λ k.
-            let own_f = own_In e.robot.0 (unfinished m) (subst (λ es. In f es) (sym h) (here refl)) in
-            let f_left = In_unfilter undone m.plan own_f.0 in
-            let rises = subst (λ es. IsAscending 1 es) h (IsAscending-own e.robot.0 1 (unfinished m) (IsAscending-filter undone 1 m.plan (from_one m good))) in
-            let l = low_bound (f.no.0 + 1) fs rises.1 k in
-            let less : f.no.0 < e.no.0 = omega arith in
-            absurd (both_ways (is_done m.finished f) (not-true (is_done m.finished f) f_left.1) (ready.waited f f_left.0 (inl (own_f.1, less)))))
+        let own_f = own_In e.robot.0 (unfinished m) (subst (λ es. In f es) (sym h) (here refl)) in
+        let f_left = In_unfilter undone m.plan own_f.0 in
+        let rises = subst (λ es. IsAscending 1 es) h (IsAscending-own e.robot.0 1 (unfinished m) (IsAscending-filter undone 1 m.plan (from_one m good))) in
+        let l = low_bound (f.no.0 + 1) fs rises.1 k in
+        let less : f.no.0 < e.no.0 = omega arith in
+        absurd (both_ways (is_done m.finished f) (not-true (is_done m.finished f) f_left.1) (ready.waited f f_left.0 (inl (own_f.1, less)))))
 
 -- and waits for nothing
 pub ready_waits : (m : Fleet) (e : Event) → IsReady (IsBehind m.site.groups) m.plan m.finished e → waits_on m e ≡ None

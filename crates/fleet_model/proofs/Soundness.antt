@@ -1,27 +1,24 @@
 -- Every legal journal is sound.
-use Rattle.std.proofs.Common.{◌≡◌, ◌≢◌, ℕ, true, false, ◌==◌, ◌&&◌, ◌⊎◌, inl, inr, refl, sym, ap, ◌∙◌, subst, List, [], ◌∷◌, ◌++◌, length, Some, map, append_assoc}
+use Rattle.std.proofs.Common.{◌≡◌, ◌≢◌, ℕ, true, false, ◌==◌, ◌&&◌, ◌⊎◌, inl, inr, refl, sym, ap, ◌∙◌, subst, List, [], ◌∷◌, ◌++◌, length, Some}
 use Rattle.std.proofs.lemmas.Bool.{cases_Bool, both_ways, eqb-true, and_parts}
-use Rattle.std.proofs.lemmas.List.{append-nil}
-use Rattle.std.specs.Prelude.{◌↔◌}
 use Rattle.std.specs.List.{list_any}
 use Rattle.fleet_base.specs.Lists.{robots_of, numbers_of}
 use Rattle.fleet_base.specs.declared.entries.Act.{Act}
 use Rattle.fleet_base.specs.declared.entries.Act.TheVariants.{Merged, Deferred, Retried, Canceled, Withdrawn, Replanned, Reported}
 use Rattle.fleet_base.specs.declared.entries.Entry.{Entry}
 use Rattle.fleet_base.specs.declared.numbers.CellNo.{CellNo}
-use Rattle.fleet_base.specs.declared.numbers.Event.{Event}
 use Rattle.fleet_base.specs.declared.numbers.EventNo.{EventNo}
 use Rattle.fleet_base.specs.declared.numbers.RobotNo.{RobotNo}
-use Rattle.fleet_model.specs.Lists.{In, here, there}
+use Rattle.fleet_model.specs.Lists.{In}
 use Rattle.fleet_model.specs.Sites.{IsSite}
-use Rattle.fleet_model.specs.Plans.{Fleet, IsAllowed, merged}
+use Rattle.fleet_model.specs.Plans.{IsAllowed}
 use Rattle.fleet_model.specs.Cycles.{are_distinct, leads, is_cycle}
 use Rattle.fleet_model.specs.States.{State, is_deferred_on, cycle_of}
 use Rattle.fleet_model.specs.Calls.{deferring}
 use Rattle.fleet_model.specs.Good.{IsGood}
 use Rattle.fleet_model.specs.Journals.{turn_at, IsJournal, state_after}
-use Rattle.fleet_model.specs.Sound.{IsCycle, IsMerge, IsChange, IsDeferral, IsTrueTo, NoneDefers, CanInsert, IsSoundState, IsSoundEntry, IsReported, IsBound, AreCyclesSound, IsSoundJournal}
-use Rattle.fleet_model.proofs.Anys.{any_In, In_any}
+use Rattle.fleet_model.specs.Sound.{IsCycle, IsMerge, IsDeferral, IsTrueTo, NoneDefers, IsSoundState, IsSoundEntry, IsBound, AreCyclesSound, IsSoundJournal}
+use Rattle.fleet_model.proofs.Anys.{any_In}
 use Rattle.fleet_model.proofs.Lists.{In_either}
 use Rattle.fleet_model.proofs.Good.{good_safe, ready_event}
 use Rattle.fleet_model.proofs.Merge.{allowed_still}

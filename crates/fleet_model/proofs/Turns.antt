@@ -1,16 +1,12 @@
 -- The accepted calls of a list are a journal, and the call that an entry records gives the entry.
-use Rattle.std.proofs.Common.{◌≡◌, ℕ, Bool, true, false, not, ◌==◌, ◌⊎◌, inl, inr, refl, sym, ap, ◌∙◌, subst, List, [], ◌∷◌, ◌++◌, ◌+◌, length, Option, Some, None}
+use Rattle.std.proofs.Common.{◌≡◌, ℕ, Bool, true, false, not, ◌==◌, refl, sym, ap, ◌∙◌, subst, List, [], ◌∷◌, ◌++◌, ◌+◌, length, Option, Some, None}
 use Rattle.std.proofs.lemmas.Bool.{both_ways, and_parts, or_from, eqb-true, false_from_ne_true}
-use Rattle.std.proofs.lemmas.Option.{same_Some}
-use Rattle.std.specs.Prelude.{Ok, Err}
+use Rattle.std.specs.Prelude.{Ok}
 use Rattle.std.specs.List.{list_all}
 use Rattle.std.specs.Option.{is_none, option_to_list, unwrap_or}
 use Rattle.fleet_base.specs.declared.answers.Block.{Block}
-use Rattle.fleet_base.specs.declared.answers.ProposeRefused.{ProposeRefused}
 use Rattle.fleet_base.specs.declared.answers.Look.{Look}
 use Rattle.fleet_base.specs.declared.answers.UnknownRobot.{UnknownRobot}
-use Rattle.fleet_base.specs.declared.answers.Proposed.{Proposed}
-use Rattle.fleet_base.specs.declared.answers.Proposed.TheVariants as proposed
 use Rattle.fleet_base.specs.declared.answers.ReplanRefused.{ReplanRefused}
 use Rattle.fleet_base.specs.declared.answers.ReplanRefused.TheVariants as replan_refused
 use Rattle.fleet_base.specs.declared.answers.Withdrawn.{Withdrawn as Removed}
@@ -18,7 +14,6 @@ use Rattle.fleet_base.specs.declared.entries.Act.{Act}
 use Rattle.fleet_base.specs.declared.entries.Act.TheVariants.{Merged, Deferred, Retried, Canceled, Withdrawn, Replanned, Reported}
 use Rattle.fleet_base.specs.declared.entries.Entry.{Entry}
 use Rattle.fleet_base.specs.declared.numbers.CellNo.{CellNo}
-use Rattle.fleet_base.specs.declared.numbers.EventNo.{EventNo}
 use Rattle.fleet_base.specs.declared.numbers.Span.{Span}
 use Rattle.fleet_model.specs.Lists.{when, first_some}
 use Rattle.fleet_model.specs.Sites.{IsSite, last_cell}
@@ -26,14 +21,11 @@ use Rattle.fleet_model.specs.Plans.{end_of, removable_tail, withdrawn}
 use Rattle.fleet_model.specs.Routes.{leads_to}
 use Rattle.fleet_model.specs.Deferral.{is_shut_to}
 use Rattle.fleet_model.specs.States.{State, is_robot, pending_route, block_of}
-use Rattle.fleet_model.specs.Calls.{Step, unless, unless_refused, propose_refusals, propose_outcome, propose, retry_refusals, cancel_refusals, withdraw_refusals, retry, cancel, withdraw, replan, replan_refusals, report, report_refusals, next_event, reported, accepted, deferring, with_route, moved, span_of, first_of, detour_of, has_cell, Call, Propose, Retry, Cancel, Withdraw, Replan, Report, LookAt, look_of, turn, entries_of, after_calls}
+use Rattle.fleet_model.specs.Calls.{Step, unless, unless_refused, propose_refusals, propose_outcome, retry_refusals, cancel_refusals, withdraw_refusals, replan, replan_refusals, report_refusals, next_event, reported, accepted, deferring, with_route, moved, span_of, first_of, detour_of, has_cell, Call, Propose, Retry, Cancel, Withdraw, Replan, Report, LookAt, look_of, turn, entries_of, after_calls}
 use Rattle.fleet_model.specs.Good.{IsGood}
 use Rattle.fleet_model.specs.Journals.{last_of, call_of, turn_at, IsJournal, state_after}
-use Rattle.fleet_model.specs.Sound.{CanInsert}
 use Rattle.fleet_model.proofs.Detours.{detour_least, detour_to_last}
-use Rattle.fleet_model.proofs.Insert.{blocked_unsafe}
-use Rattle.fleet_model.proofs.Least.{unblocked_safe}
-use Rattle.fleet_model.proofs.Accepted.{AllNone, IsAccepted, unless_accepted, when_none, some_of, told, no_entry, accepts, accepts_propose, Accepts, Change, Grew, Kept, Dropped, Cut, Did, CanChange, Tells, same_cell, nothing}
+use Rattle.fleet_model.proofs.Accepted.{AllNone, IsAccepted, unless_accepted, when_none, some_of, told, no_entry, same_cell, nothing}
 use Rattle.fleet_model.proofs.Kept.{turn_good}
 
 -- the entry's own call gives the entry and the same state
@@ -68,8 +60,8 @@ last_away goal avoid [] end leads away = refl
 last_away goal avoid (a ∷ bs) end leads away =
     or_from ((last_cell a bs).0 == end.0) false
     (false_from_ne_true ((last_cell a bs).0 == end.0) (λ t.
-        let same : last_cell a bs ≡ end = same_cell (last_cell a bs) end (eqb-true (last_cell a bs).0 end.0 t) in
-        both_ways (goal end) away (subst (λ c. goal c ≡ true) same (and_parts (goal (last_cell a bs)) (list_all (λ b. not (avoid b)) (a ∷ bs)) leads).0)))
+    let same : last_cell a bs ≡ end = same_cell (last_cell a bs) end (eqb-true (last_cell a bs).0 end.0 t) in
+    both_ways (goal end) away (subst (λ c. goal c ≡ true) same (and_parts (goal (last_cell a bs)) (list_all (λ b. not (avoid b)) (a ∷ bs)) leads).0)))
     refl
 
 -- a replan to the last cell of a detour gives what the replan gave that found it
