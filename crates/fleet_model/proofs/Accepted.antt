@@ -34,7 +34,9 @@ use Rattle.fleet_model.specs.Deferral.{ends, least_blocker}
 use Rattle.fleet_model.specs.States.{State, is_robot, pending_of, pending_route, owed, is_full, cycle_of, block_of}
 use Rattle.fleet_model.specs.Calls.{Step, unless, unless_refused, propose_refusals, retry_refusals, cancel_refusals, withdraw_refusals, replan_refusals, report_refusals, accepted, moved, with_route, deferring, first_of, first_unlinked, unlinked_at, begin_at, propose_growth, propose_outcome, propose, detour_of, next_event, waits_on, is_number, reported, span_of, retry, cancel, withdraw, replan, report, look_of, Call, Propose, Retry, Cancel, Withdraw, Replan, Report, LookAt, turn, has_cell}
 use Rattle.fleet_model.specs.Good.{IsAscending, IsGoodPlan, IsGood}
-use Rattle.fleet_model.proofs.Lists.{In-nil, In_either, In-append_right, In-filter, In_unfilter}
+use Rattle.fleet_model.proofs.Lists.{In-nil, In_either, In-append_right, In-filter, In_unfilter, length_In, some_one}
+use Rattle.fleet_model.proofs.Options.{not_none, none_of, map_none, map_some, when_none}
+use Rattle.fleet_model.proofs.SameNumbers.{same_cell, same_number}
 use Rattle.fleet_model.proofs.Numbers.{from_one, IsAscending-own, IsAscending-filter, own_In, In_own, low_bound, done_in, done_right, done_parts}
 use Rattle.fleet_model.proofs.Counts.{emptied_le, emptied_less, filled_le, filter_less, filter_misses}
 use Rattle.fleet_model.proofs.Leasts.{least_none}
@@ -118,25 +120,6 @@ unless_accepted refusals s step entry h =
     let u = unless_cases (first_some refusals) s step entry h in
     record { none = all_none refusals u.0; told = u.1; is = u.2 }
 
-pub when_none : {A : Type 0} (b : Bool) (x : A) → when b x ≡ None → b ≡ false
-when_none true x h = absurd (cc)
-when_none false x h = refl
-
-map_none : {A B : Type 0} (f : A → B) (o : Option A) → option_map f o ≡ None → o ≡ None
-map_none f None h = refl
-map_none f (Some x) h = absurd (cc)
-
-pub some_of : {A : Type 0} (o : Option A) → is_none o ≡ false → (x : A) × (o ≡ Some x)
-some_of None h = absurd (both_ways true h refl)
-some_of (Some x) h = (x, refl)
-
-none_of : {A : Type 0} (o : Option A) → is_some o ≡ false → o ≡ None
-none_of None h = refl
-none_of (Some x) h = absurd (both_ways true h refl)
-
-pub same_cell : (a b : CellNo) → a.0 ≡ b.0 → a ≡ b
-same_cell a b p = λ i. record { 0 = p i }
-
 pub start_of : (starts : List CellNo) (r : ℕ) → r < length starts → (a : CellNo) × (slice_get starts r ≡ Some a)
 start_of [] r h = absurd (omega arith)
 start_of (a ∷ rest) zero h = (a, refl)
@@ -176,10 +159,6 @@ proposal s r cells block none = record {
   room = when_none (is_full s (propose_growth s cells block)) propose_refused.Full none.1.1.1.1.1.1.1.0;
 }
 
-map_some : {A B : Type 0} {f : A → B} (o : Option A) (y : B) → option_map f o ≡ Some y → (x : A) × (o ≡ Some x) × (f x ≡ y)
-map_some None y h = absurd (cc)
-map_some {f = f} (Some x) y h = (x, refl, same_Some (f x) y h)
-
 pub length-numbered : (n r : ℕ) (ks : List Kind) → length (numbered n r ks) ≡ length ks
 length-numbered n r [] = refl
 length-numbered n r (k ∷ ks) = ap (λ m. suc m) (length-numbered (n + 1) r ks)
@@ -190,13 +169,6 @@ filter_length p es = omega (arith, length-filter p es, count_by-le-length p es)
 -- what an accepted call's entry tells
 pub told : (r : ℕ) (act : Act) (entry : Entry) → Some (record { robot = record { 0 = r }; act = act }) ≡ Some entry → (entry.robot.0 ≡ r) × (entry.act ≡ act)
 told r act entry h = let e = same_Some (record { robot = record { 0 = r }; act = act }) entry h in (ap (λ (x : Entry). x.robot.0) (sym e), ap (λ (x : Entry). x.act) (sym e))
-
-length_In : {A : Type 0} (xs : List A) (x : A) → In x xs → 1 ≤ length xs
-length_In [] x m = elim m [ ]
-length_In (y ∷ ys) x m = omega arith
-
-pub same_number : (a b : EventNo) → a.0 ≡ b.0 → a ≡ b
-same_number a b p = λ i. record { 0 = p i }
 
 -- a report leaves one unfinished event less
 done_fewer : (m : Fleet) (e : Event) → IsReady (IsBehind m.site.groups) m.plan m.finished e → length (unfinished (reported m (Some e))) + 1 ≤ length (unfinished m)
@@ -298,7 +270,7 @@ accepts_retry s r entry good h = record {
     is = unless_accepted (retry_refusals s r route) s (accepted (span_of s route) r (Retried (first_of s)) (with_route s r route)) entry h
 
     pends : (old : List CellNo) × (pending_of s r ≡ Some old)
-    pends = some_of (pending_of s r) (when_none (is_none (pending_of s r)) retry_refused.NoPending is.none.1.0)
+    pends = not_none (pending_of s r) (when_none (is_none (pending_of s r)) retry_refused.NoPending is.none.1.0)
 
     clear : IsClear s.fleet r route
     clear = none_unblocked s.fleet r route (map_none _ (least_blocker s.fleet.site (ends s.fleet) r (needs s.fleet.site route)) (map_none (λ block. retry_refused.StillDeferred block) (block_of s r route) is.none.1.1.0))
@@ -313,7 +285,7 @@ nothing = tt
 pub accepts_cancel : (s : State) (r : ℕ) (entry : Entry) → IsGood s → (cancel s r).entry ≡ Some entry → Accepts s r entry (cancel s r).after
 accepts_cancel s r entry good h =
     let is = unless_accepted (cancel_refusals s r) s (accepted nothing r Canceled (moved s s.fleet r None)) entry h in
-    let pends = some_of (pending_of s r) (when_none (is_none (pending_of s r)) cancel_refused.NoPending is.none.1.0) in
+    let pends = not_none (pending_of s r) (when_none (is_none (pending_of s r)) cancel_refused.NoPending is.none.1.0) in
     let t = told r Canceled entry is.told in
     record {
       change = Dropped;
@@ -346,20 +318,16 @@ accepts_replan s r goal entry is_site h = record {
     is = unless_accepted (replan_refusals s r goal (detour_of s.fleet r goal)) s (accepted (span_of s route) r (Replanned route (first_of s)) (with_route s r route)) entry h
 
     pends : (old : List CellNo) × (pending_of s r ≡ Some old)
-    pends = some_of (pending_of s r) (when_none (is_none (pending_of s r)) replan_refused.NoPending is.none.1.0)
+    pends = not_none (pending_of s r) (when_none (is_none (pending_of s r)) replan_refused.NoPending is.none.1.0)
 
     found : (detour : List CellNo) × (detour_of s.fleet r goal ≡ Some detour)
-    found = some_of (detour_of s.fleet r goal) (when_none (is_none (detour_of s.fleet r goal)) replan_refused.NoDetour is.none.1.1.1.0)
+    found = not_none (detour_of s.fleet r goal) (when_none (is_none (detour_of s.fleet r goal)) replan_refused.NoDetour is.none.1.1.1.0)
 
     route_is : route ≡ found.0
     route_is = ap (λ o. unwrap_or o []) found.1
 
     t : (entry.robot.0 ≡ r) × (entry.act ≡ Replanned route (first_of s))
     t = told r (Replanned route (first_of s)) entry is.told
-
-some_one : {A : Type 0} (xs : List A) → (length xs == 0) ≡ false → (x : A) × In x xs
-some_one [] h = absurd (both_ways true h refl)
-some_one (x ∷ xs) h = (x, here refl)
 
 -- an accepted withdrawal
 pub accepts_withdraw : (s : State) (r : ℕ) (entry : Entry) → IsGood s → (withdraw s r).entry ≡ Some entry → Accepts s r entry (withdraw s r).after

@@ -7,7 +7,7 @@ use Rattle.fleet_base.specs.declared.numbers.ClaimGroup.{ClaimGroup}
 use Rattle.fleet_base.specs.declared.numbers.ClaimNo.{ClaimNo}
 use Rattle.fleet_base.specs.Lists.{RiseFrom}
 use Rattle.fleet_model.specs.Sites.{Site, exclude, in_conflict, footprint_of, has_claim, IsDistinct, IsSite}
-use Rattle.fleet_model.proofs.Alone.{same_claim}
+use Rattle.fleet_model.proofs.SameNumbers.{same_claim}
 
 -- two different claims exclude each other both ways
 exclude_symmetric : (o p : Option ClaimGroup) → exclude o p false ≡ true → exclude p o false ≡ true

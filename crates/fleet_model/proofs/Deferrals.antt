@@ -12,7 +12,7 @@ use Rattle.fleet_model.specs.Plans.{IsBlocker}
 use Rattle.fleet_model.specs.Cycles.{IsLeastCycle}
 use Rattle.fleet_model.specs.Deferral.{ends, is_kept_by}
 use Rattle.fleet_model.specs.States.{State, pending_of, pending_route, is_deferred_on, IsDeferredOn, cycle_of}
-use Rattle.fleet_model.proofs.Anys.{any_In, In_any}
+use Rattle.fleet_model.proofs.Tests.{any_In, In_any}
 use Rattle.fleet_model.proofs.Cycles.{cycle_through_least}
 use Rattle.fleet_model.proofs.Blockers.{In_acquired, kept_blocker, blocker_kept, blocker_below}
 

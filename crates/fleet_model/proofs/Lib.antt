@@ -1,7 +1,10 @@
 pub mod Lists
 pub mod Leasts
-pub mod Anys
+pub mod Options
 pub mod Tests
+pub mod SameNumbers
+pub mod Dictionary
+pub mod Distinct
 pub mod Numbers
 pub mod Alone
 pub mod Claims

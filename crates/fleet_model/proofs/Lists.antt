@@ -1,8 +1,9 @@
 -- Membership in lists, and their beginnings.
-use Rattle.std.proofs.Common.{◌≡◌, Bool, true, false, cond, ◌⊎◌, inl, inr, refl, sym, ap, ◌∙◌, subst, List, [], ◌∷◌, ◌++◌, map}
+use Rattle.std.proofs.Common.{◌≡◌, ℕ, zero, suc, ◌+◌, ◌<◌, ◌≤◌, Bool, true, false, cond, ◌==◌, ◌⊎◌, inl, inr, refl, sym, ap, ◌∙◌, subst, List, [], ◌∷◌, ◌++◌, map, length, arith}
+use Rattle.std.proofs.lemmas.Bool.{both_ways, cases_order}
 use Rattle.std.proofs.lemmas.List.Elements.{All-nil, All-cons, All-head, All-tail}
-use Rattle.std.specs.List.{filter, All}
-use Rattle.fleet_model.specs.Lists.{In, here, there}
+use Rattle.std.specs.List.{filter, All, flat_map, range_with_len}
+use Rattle.fleet_model.specs.Lists.{In, here, there, pairs, numbers_below}
 
 module _ {A : Type 0} where
   pub In-nil : {x : A} → In x [] → ⊥
@@ -90,3 +91,64 @@ All_In P (y ∷ ys) h x (there m) = All_In P ys (All-tail P y ys h) x m
 pub In_All : {A : Type 0} (P : A → Type 0) (xs : List A) → ((x : A) → In x xs → P x) → All P xs
 In_All P [] h = All-nil P
 In_All P (y ∷ ys) h = All-cons P y ys (h y (here refl)) (In_All P ys (λ x m. h x (there m)))
+
+-- a member of one of the lists is a member of them joined
+pub In-flat_map : {A B : Type 0} (f : A → List B) {x : A} {y : B} (xs : List A) → In x xs → In y (f x) → In y (flat_map f xs)
+In-flat_map f [] m h = elim m [ ]
+In-flat_map f {x} {y} (z ∷ zs) (here e) h = In-append_left (f z) (flat_map f zs) (rw (sym e) h)
+In-flat_map f (z ∷ zs) (there m) h = In-append_right (f z) (flat_map f zs) (In-flat_map f zs m h)
+
+-- a member of the joined lists is a member of one of them
+pub In_unflat_map : {A B : Type 0} (f : A → List B) {y : B} (xs : List A) → In y (flat_map f xs) → (x : A) × In x xs × In y (f x)
+In_unflat_map f [] m = elim m [ ]
+In_unflat_map f (x ∷ xs) m = elim (In-append_cases (f x) (flat_map f xs) m) [ inl h ↦ (x, here refl, h) | inr h ↦ (let r = In_unflat_map f xs h in (r.0, there r.1, r.2)) ]
+
+-- each number from a on, so many, is listed
+In_range : (a n x : ℕ) → a ≤ x → x < a + n → In x (range_with_len a n)
+In_range a zero x low high = absurd (omega arith)
+In_range a (suc n) x low high = go (cases_order x a) (In_range (a + 1) n x)
+  where
+    go : (x ≡ a) ⊎ ((x < a) ⊎ (a < x)) → (a + 1 ≤ x → x < a + 1 + n → In x (range_with_len (a + 1) n)) → In x (a ∷ range_with_len (a + 1) n)
+    go (inl e) ih = here e
+    go (inr (inl l)) ih = absurd (omega arith)
+    go (inr (inr l)) ih = there (ih (omega arith) (omega arith))
+
+-- a number that is listed is one of them
+In_unrange : (a n x : ℕ) → In x (range_with_len a n) → (a ≤ x) × (x < a + n)
+In_unrange a zero x m = elim m [ ]
+In_unrange a (suc n) x (here e) = (omega arith, omega arith)
+In_unrange a (suc n) x (there m) = let r = In_unrange (a + 1) n x m in (omega arith, omega arith)
+
+-- a number below n is listed among those below n
+pub In_below : (n x : ℕ) → x < n → In x (numbers_below n)
+In_below n x h = In_range 0 n x (omega arith) (omega arith)
+
+-- a number that is listed among those below n is below n
+pub below_In : (n x : ℕ) → In x (numbers_below n) → x < n
+below_In n x m = let r = In_unrange 0 n x m in omega arith
+
+-- each x is paired with each y
+pub In_pairs : {A B : Type 0} {x : A} {y : B} (xs : List A) (ys : List B) → In x xs → In y ys → In (x, y) (pairs xs ys)
+In_pairs {A} {B} {x} xs ys i j = In-flat_map (λ (a : A). map (λ (b : B). (a, b)) ys) {x = x} xs i (In-map (λ (b : B). (x, b)) ys j)
+
+-- a pair is of an x and a y
+pub pairs_In : {A B : Type 0} {p : A × B} (xs : List A) (ys : List B) → In p (pairs xs ys) → In p.0 xs × In p.1 ys
+pairs_In {A} {B} {p} xs ys m =
+    let r = In_unflat_map (λ (a : A). map (λ (b : B). (a, b)) ys) xs m in
+    let s = In_unmap (λ (b : B). (r.0, b)) ys r.2 in
+    (subst (λ a. In a xs) (sym (ap (λ (q : A × B). q.0) s.2)) r.1, subst (λ b. In b ys) (sym (ap (λ (q : A × B). q.1) s.2)) s.1)
+
+-- a list without members is empty
+pub none_in : {A : Type 0} (xs : List A) → ((x : A) → In x xs → ⊥) → xs ≡ []
+none_in [] f = refl
+none_in (x ∷ xs) f = absurd (f x (here refl))
+
+-- a list with a member has at least one
+pub length_In : {A : Type 0} (xs : List A) (x : A) → In x xs → 1 ≤ length xs
+length_In [] x m = elim m [ ]
+length_In (y ∷ ys) x m = omega arith
+
+-- a list that has a length has a member
+pub some_one : {A : Type 0} (xs : List A) → (length xs == 0) ≡ false → (x : A) × In x xs
+some_one [] h = absurd (both_ways true h refl)
+some_one (x ∷ xs) h = (x, here refl)

@@ -22,16 +22,13 @@ use Rattle.fleet_model.specs.Calls.{unless, unless_refused, report_refusals, rep
 use Rattle.fleet_model.specs.Good.{IsAscending, IsGoodPlan, IsGood}
 use Rattle.fleet_model.specs.Journals.{turn_at, IsJournal, report_entries}
 use Rattle.fleet_model.specs.Sound.{IsWithdrawal}
-use Rattle.fleet_model.proofs.Lists.{In-nil, In_either, In-filter, In_unfilter, In-map}
+use Rattle.fleet_model.proofs.Lists.{In-nil, In_either, In-filter, In_unfilter, In-map, none_in}
+use Rattle.fleet_model.proofs.SameNumbers.{same_number}
 use Rattle.fleet_model.proofs.Numbers.{from_one, IsAscending-own, IsAscending-filter, own_In, In_own, low_bound}
 use Rattle.fleet_model.proofs.Further.{ready_merged, ready_reported}
 use Rattle.fleet_model.proofs.Withdraw.{ready_withdrawn}
-use Rattle.fleet_model.proofs.Accepted.{Change, Grew, Kept, Dropped, Cut, Did, changed, CanChange, Tells, same_number, nothing}
+use Rattle.fleet_model.proofs.Accepted.{Change, Grew, Kept, Dropped, Cut, Did, changed, CanChange, Tells, nothing}
 use Rattle.fleet_model.proofs.Kept.{accepts_at, report_good}
-
-none_in : {A : Type 0} (xs : List A) → ((x : A) → In x xs → ⊥) → xs ≡ []
-none_in [] f = refl
-none_in (x ∷ xs) f = absurd (f x (here refl))
 
 -- a ready event is the first unfinished one of its robot
 pub ready_next : (m : Fleet) (e : Event) → IsGoodPlan m → IsReady (IsBehind m.site.groups) m.plan m.finished e → next_event m e.robot.0 ≡ Some e

@@ -18,13 +18,14 @@ use Rattle.fleet_model.specs.Calls.{deferring}
 use Rattle.fleet_model.specs.Good.{IsGood}
 use Rattle.fleet_model.specs.Journals.{turn_at, IsJournal, state_after}
 use Rattle.fleet_model.specs.Sound.{IsCycle, IsMerge, IsDeferral, IsTrueTo, NoneDefers, IsSoundState, IsSoundEntry, IsBound, AreCyclesSound, IsSoundJournal}
-use Rattle.fleet_model.proofs.Anys.{any_In}
+use Rattle.fleet_model.proofs.Tests.{any_In}
 use Rattle.fleet_model.proofs.Lists.{In_either}
 use Rattle.fleet_model.proofs.Good.{good_safe, ready_event}
 use Rattle.fleet_model.proofs.Merge.{allowed_still}
 use Rattle.fleet_model.proofs.Insert.{blocked_unsafe}
 use Rattle.fleet_model.proofs.Least.{unblocked_safe}
-use Rattle.fleet_model.proofs.Rotations.{absent_out, least_is_cycle, cycle_of_some, deferrals_turn}
+use Rattle.fleet_model.proofs.Distinct.{absent_out}
+use Rattle.fleet_model.proofs.Rotations.{least_is_cycle, cycle_of_some, deferrals_turn}
 use Rattle.fleet_model.proofs.Deferrals.{cycle_of_least}
 use Rattle.fleet_model.proofs.Accepted.{Change, Grew, Kept, Dropped, Cut, Did, changed, CanChange, Accepts, Tells}
 use Rattle.fleet_model.proofs.Kept.{accepts_at, turn_good, journal_good}

@@ -24,8 +24,10 @@ use Rattle.fleet_model.specs.States.{State, is_robot, pending_route, block_of}
 use Rattle.fleet_model.specs.Calls.{Step, unless, unless_refused, propose_refusals, propose_outcome, retry_refusals, cancel_refusals, withdraw_refusals, replan, replan_refusals, report_refusals, next_event, reported, accepted, deferring, with_route, moved, span_of, first_of, detour_of, has_cell, Call, Propose, Retry, Cancel, Withdraw, Replan, Report, LookAt, look_of, turn, entries_of, after_calls}
 use Rattle.fleet_model.specs.Good.{IsGood}
 use Rattle.fleet_model.specs.Journals.{last_of, call_of, turn_at, IsJournal, state_after}
+use Rattle.fleet_model.proofs.Options.{not_none, when_none}
+use Rattle.fleet_model.proofs.SameNumbers.{same_cell}
 use Rattle.fleet_model.proofs.Detours.{detour_least, detour_to_last}
-use Rattle.fleet_model.proofs.Accepted.{AllNone, IsAccepted, unless_accepted, when_none, some_of, told, no_entry, same_cell, nothing}
+use Rattle.fleet_model.proofs.Accepted.{AllNone, IsAccepted, unless_accepted, told, no_entry, nothing}
 use Rattle.fleet_model.proofs.Kept.{turn_good}
 
 -- the entry's own call gives the entry and the same state
@@ -85,7 +87,7 @@ replan_to_last s r goal entry is_site h = (route, t.0, t.1, there_is ∙ sym is.
     t = told r (Replanned route (first_of s)) entry is.told
 
     found : (way : List CellNo) × (detour_of s.fleet r goal ≡ Some way)
-    found = some_of (detour_of s.fleet r goal) (when_none (is_none (detour_of s.fleet r goal)) replan_refused.NoDetour is.none.1.1.1.0)
+    found = not_none (detour_of s.fleet r goal) (when_none (is_none (detour_of s.fleet r goal)) replan_refused.NoDetour is.none.1.1.1.0)
 
     is_found : detour_of s.fleet r goal ≡ Some route
     is_found = found.1 ∙ ap (λ x. Some x) (sym (ap (λ o. unwrap_or o []) found.1))

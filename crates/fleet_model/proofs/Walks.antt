@@ -8,7 +8,8 @@ use Rattle.fleet_base.specs.declared.numbers.Kind.TheVariants.{Acquire, Move, Re
 use Rattle.fleet_model.specs.Sites.{footprint_of, Site, IsSite, IsDistinct, has_claim, without, step, steps_from, last_cell}
 use Rattle.fleet_model.specs.Replays.{IsStanding, AreSteps, Spot, CanDo, CanDoAll, standing, start_at, after_kind, after_kinds}
 use Rattle.fleet_model.proofs.Claims.{footprint_distinct}
-use Rattle.fleet_model.proofs.Alone.{same_claim, CanDoAll-append, after_kinds-append}
+use Rattle.fleet_model.proofs.SameNumbers.{same_claim}
+use Rattle.fleet_model.proofs.Alone.{CanDoAll-append, after_kinds-append}
 
 abbrev acquires : List ClaimNo → List Kind
 acquires cs = map (λ c. Acquire c) cs
