@@ -82,17 +82,13 @@ apart_stood s good members t c out r q i j d =
     deferred_still (changed s t c) s r q (sym w.0) (sym w.1) (sym k.0) (sym k.1) d
 
 -- the change is the report of an event
-IsReport : Change → Type 0
+abbrev IsReport : Change → Type 0
 IsReport c = (e : Event) × (c ≡ Did e)
 
 -- where no member acts, or the act is a report, each deferral between members is there after the change
 stays_apart : (s : State) → IsGoodPlan s.fleet → (members : List ℕ) (t : ℕ) (c : Change) → (In t members → IsReport c) → (r q : ℕ) → In r members → In q members → IsDeferredOn s r q → IsDeferredOn (changed s t c) r q
-unfolding IsReport
 stays_apart s good members t (Did e) out r q i j d = deferred_still s (changed s t (Did e)) r q refl refl refl refl d
-stays_apart s good members t (Grew route) out r q i j d = apart_still s good members t (Grew route) (λ k. let x = out k in let y = x.1 in cc) r q i j d
-stays_apart s good members t (Kept route) out r q i j d = apart_still s good members t (Kept route) (λ k. let x = out k in let y = x.1 in cc) r q i j d
-stays_apart s good members t Dropped out r q i j d = apart_still s good members t Dropped (λ k. let x = out k in let y = x.1 in cc) r q i j d
-stays_apart s good members t Cut out r q i j d = apart_still s good members t Cut (λ k. let x = out k in let y = x.1 in cc) r q i j d
+stays_apart s good members t c out r q i j d = apart_still s good members t c (λ k. let x = out k in let y = x.1 in cc) r q i j d
 
 -- a member whose pending route was dropped or merged isn't deferred any more
 now_none : (ps : List (Option (List CellNo))) (t : ℕ) (route : List CellNo) → get_or (set ps t None) t None ≡ Some route → ⊥
@@ -112,60 +108,25 @@ module _ (s : State) (members : List ℕ) (closed : IsClosed s members) where
   only_reports t (Grew route) (Merged cells first) can tells keeps i = absurd (pends t i tells.1)
   only_reports t (Grew route) (Retried first) can tells keeps i = absurd (blocked t route i tells can.2)
   only_reports t (Grew route) (Replanned cells first) can tells keeps i = absurd (keeps tt)
-  only_reports t (Grew route) (Deferred cells cycle) can tells keeps i = absurd tells
-  only_reports t (Grew route) Canceled can tells keeps i = absurd tells
-  only_reports t (Grew route) (Withdrawn removed end) can tells keeps i = absurd tells
-  only_reports t (Grew route) (Reported event) can tells keeps i = absurd tells
   only_reports t (Kept route) a can tells keeps i = absurd (pends t i can.0)
   only_reports t Dropped Canceled can tells keeps i = absurd (keeps tt)
-  only_reports t Dropped (Merged cells first) can tells keeps i = absurd tells
-  only_reports t Dropped (Deferred cells cycle) can tells keeps i = absurd tells
-  only_reports t Dropped (Retried first) can tells keeps i = absurd tells
-  only_reports t Dropped (Withdrawn removed end) can tells keeps i = absurd tells
-  only_reports t Dropped (Replanned cells first) can tells keeps i = absurd tells
-  only_reports t Dropped (Reported event) can tells keeps i = absurd tells
   only_reports t Cut (Withdrawn removed end) can tells keeps i = absurd (keeps tt)
-  only_reports t Cut (Merged cells first) can tells keeps i = absurd tells
-  only_reports t Cut (Deferred cells cycle) can tells keeps i = absurd tells
-  only_reports t Cut (Retried first) can tells keeps i = absurd tells
-  only_reports t Cut Canceled can tells keeps i = absurd tells
-  only_reports t Cut (Replanned cells first) can tells keeps i = absurd tells
-  only_reports t Cut (Reported event) can tells keeps i = absurd tells
   only_reports t (Did e) (Reported event) can tells keeps i = (e, refl, ap (λ n. Reported n) (sym tells))
-  only_reports t (Did e) (Merged cells first) can tells keeps i = absurd tells
-  only_reports t (Did e) (Deferred cells cycle) can tells keeps i = absurd tells
-  only_reports t (Did e) (Retried first) can tells keeps i = absurd tells
-  only_reports t (Did e) Canceled can tells keeps i = absurd tells
-  only_reports t (Did e) (Withdrawn removed end) can tells keeps i = absurd tells
-  only_reports t (Did e) (Replanned cells first) can tells keeps i = absurd tells
+  only_reports t c a can tells keeps i = absurd tells
 
 -- members are deferred after the change: then the one that acts is none of them, reports, or defers a route
 reports_or_defers : (s : State) (t : ℕ) (members : List ℕ) (c : Change) (a : Act) → Tells s t c a → IsClosed (changed s t c) members → (IsDeferral a → ⊥) → In t members → IsReport c
-unfolding IsReport
 reports_or_defers s t members (Did e) a tells closed none i = (e, refl)
 reports_or_defers s t members (Grew route) a tells closed none i = absurd (now_none s.pending t (closed t i).2.route (closed t i).2.pending)
 reports_or_defers s t members (Kept route) (Deferred cells cycle) tells closed none i = absurd (none tt)
-reports_or_defers s t members (Kept route) (Merged cells first) tells closed none i = absurd tells
-reports_or_defers s t members (Kept route) (Retried first) tells closed none i = absurd tells
-reports_or_defers s t members (Kept route) Canceled tells closed none i = absurd tells
-reports_or_defers s t members (Kept route) (Withdrawn removed end) tells closed none i = absurd tells
-reports_or_defers s t members (Kept route) (Replanned cells first) tells closed none i = absurd tells
-reports_or_defers s t members (Kept route) (Reported event) tells closed none i = absurd tells
+reports_or_defers s t members (Kept route) a tells closed none i = absurd tells
 reports_or_defers s t members Dropped a tells closed none i = absurd (now_none s.pending t (closed t i).2.route (closed t i).2.pending)
 reports_or_defers s t members Cut a tells closed none i = absurd (now_none s.pending t (closed t i).2.route (closed t i).2.pending)
 
 -- where no member acts, or the act is a report, each deferral between members was there before the change
 stood_apart : (s : State) → IsGoodPlan s.fleet → (members : List ℕ) (t : ℕ) (c : Change) → (In t members → IsReport c) → (r q : ℕ) → In r members → In q members → IsDeferredOn (changed s t c) r q → IsDeferredOn s r q
-unfolding IsReport
 stood_apart s good members t (Did e) out r q i j d = deferred_still (changed s t (Did e)) s r q refl refl refl refl d
-stood_apart s good members t (Grew route) out r q i j d = apart_stood s good members t (Grew route) (λ k. let x = out k in let y = x.1 in cc) r q i j d
-stood_apart s good members t (Kept route) out r q i j d = apart_stood s good members t (Kept route) (λ k. let x = out k in let y = x.1 in cc) r q i j d
-stood_apart s good members t Dropped out r q i j d = apart_stood s good members t Dropped (λ k. let x = out k in let y = x.1 in cc) r q i j d
-stood_apart s good members t Cut out r q i j d = apart_stood s good members t Cut (λ k. let x = out k in let y = x.1 in cc) r q i j d
-
-report_of : (s : State) (members : List ℕ) (t : ℕ) (c : Change) → (In t members → (e : Event) × (c ≡ Did e)) → In t members → IsReport c
-unfolding IsReport
-report_of s members t c f i = f i
+stood_apart s good members t c out r q i j d = apart_stood s good members t c (λ k. let x = out k in let y = x.1 in cc) r q i j d
 
 -- one call after which a cycle stands, and in which a member only reports
 pub turn_binds : (s : State) (members : List ℕ) (entry : Entry) → IsSite s.fleet.site → IsGood s → IsCycle s members → (turn_at s entry).entry ≡ Some entry → (In entry.robot.0 members → IsChange entry.act → ⊥)
@@ -175,7 +136,7 @@ turn_binds s members entry is_site good cycle told keeps =
     let t = entry.robot.0 in
     let closed : IsClosed s members = cycle_closed s members cycle in
     let reports : In t members → (e : Event) × (a.change ≡ Did e) × (entry.act ≡ Reported e.no) = λ i. only_reports s members closed t a.change entry.act a.can a.tells (keeps i) i in (
-      subst (λ n. IsCycle n members) (sym a.after_is) (cycle_stands s (changed s t a.change) members (stays_apart s good.plan members t a.change (report_of s members t a.change (λ i. let r = reports i in (r.0, r.1)))) cycle),
+      subst (λ n. IsCycle n members) (sym a.after_is) (cycle_stands s (changed s t a.change) members (stays_apart s good.plan members t a.change (λ i. let r = reports i in (r.0, r.1))) cycle),
       λ i. let r = reports i in (r.0.no, r.2),
     )
 

@@ -7,7 +7,7 @@ use Rattle.std.specs.Option.{option_map}
 use Rattle.fleet_base.specs.declared.answers.ReportRefused.{ReportRefused}
 use Rattle.fleet_base.specs.declared.answers.ReportRefused.TheVariants as report_refused
 use Rattle.fleet_base.specs.declared.entries.Act.{Act}
-use Rattle.fleet_base.specs.declared.entries.Act.TheVariants.{Merged, Deferred, Retried, Canceled, Withdrawn, Replanned, Reported}
+use Rattle.fleet_base.specs.declared.entries.Act.TheVariants.{Withdrawn, Reported}
 use Rattle.fleet_base.specs.declared.entries.Entry.{Entry}
 use Rattle.fleet_base.specs.declared.numbers.CellNo.{CellNo}
 use Rattle.fleet_base.specs.declared.numbers.Event.{Event}
@@ -106,19 +106,8 @@ ready_still s r (Grew route) a e good tells can other own ready = ready_merged s
 ready_still s r (Kept route) a e good tells can other own ready = ready
 ready_still s r Dropped a e good tells can other own ready = ready
 ready_still s r Cut (Withdrawn removed end) e good tells can other own ready = ready_withdrawn s.fleet r e good (own tt) ready
-ready_still s r Cut (Merged cells first) e good tells can other own ready = absurd tells
-ready_still s r Cut (Deferred cells cycle) e good tells can other own ready = absurd tells
-ready_still s r Cut (Retried first) e good tells can other own ready = absurd tells
-ready_still s r Cut Canceled e good tells can other own ready = absurd tells
-ready_still s r Cut (Replanned cells first) e good tells can other own ready = absurd tells
-ready_still s r Cut (Reported event) e good tells can other own ready = absurd tells
 ready_still s r (Did f) (Reported event) e good tells can other own ready = ready_reported s.fleet e f (λ k. other (ap (λ n. Reported n) (sym tells ∙ same_number f.no e.no k))) ready
-ready_still s r (Did f) (Merged cells first) e good tells can other own ready = absurd tells
-ready_still s r (Did f) (Deferred cells cycle) e good tells can other own ready = absurd tells
-ready_still s r (Did f) (Retried first) e good tells can other own ready = absurd tells
-ready_still s r (Did f) Canceled e good tells can other own ready = absurd tells
-ready_still s r (Did f) (Withdrawn removed end) e good tells can other own ready = absurd tells
-ready_still s r (Did f) (Replanned cells first) e good tells can other own ready = absurd tells
+ready_still s r c a e good tells can other own ready = absurd tells
 
 pub ready_lasts : (s : State) (entry : Entry) (e : Event) → IsSite s.fleet.site → IsGood s → (turn_at s entry).entry ≡ Some entry → entry.act ≢ Reported e.no → (IsWithdrawal entry.act → entry.robot.0 ≢ e.robot.0) → IsReady (IsBehind s.fleet.site.groups) s.fleet.plan s.fleet.finished e
     → IsReady (IsBehind (turn_at s entry).after.fleet.site.groups) (turn_at s entry).after.fleet.plan (turn_at s entry).after.fleet.finished e

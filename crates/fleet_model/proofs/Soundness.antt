@@ -4,7 +4,7 @@ use Rattle.std.proofs.lemmas.Bool.{cases_Bool, both_ways, eqb-true, and_parts}
 use Rattle.std.specs.List.{list_any}
 use Rattle.fleet_base.specs.Lists.{robots_of, numbers_of}
 use Rattle.fleet_base.specs.declared.entries.Act.{Act}
-use Rattle.fleet_base.specs.declared.entries.Act.TheVariants.{Merged, Deferred, Retried, Canceled, Withdrawn, Replanned, Reported}
+use Rattle.fleet_base.specs.declared.entries.Act.TheVariants.{Merged, Deferred, Canceled, Withdrawn, Reported}
 use Rattle.fleet_base.specs.declared.entries.Entry.{Entry}
 use Rattle.fleet_base.specs.declared.numbers.CellNo.{CellNo}
 use Rattle.fleet_base.specs.declared.numbers.EventNo.{EventNo}
@@ -41,41 +41,15 @@ sound_state s is_site good = record {
 merge_grew : (s : State) (r : ℕ) (c : Change) (a : Act) → Tells s r c a → IsMerge a → (route : List CellNo) × (c ≡ Grew route)
 merge_grew s r (Grew route) a t m = (route, refl)
 merge_grew s r (Kept route) (Deferred cells cycle) t m = absurd m
-merge_grew s r (Kept route) (Merged cells first) t m = absurd t
-merge_grew s r (Kept route) (Retried first) t m = absurd t
-merge_grew s r (Kept route) Canceled t m = absurd t
-merge_grew s r (Kept route) (Withdrawn removed end) t m = absurd t
-merge_grew s r (Kept route) (Replanned cells first) t m = absurd t
-merge_grew s r (Kept route) (Reported event) t m = absurd t
 merge_grew s r Dropped Canceled t m = absurd m
-merge_grew s r Dropped (Merged cells first) t m = absurd t
-merge_grew s r Dropped (Deferred cells cycle) t m = absurd t
-merge_grew s r Dropped (Retried first) t m = absurd t
-merge_grew s r Dropped (Withdrawn removed end) t m = absurd t
-merge_grew s r Dropped (Replanned cells first) t m = absurd t
-merge_grew s r Dropped (Reported event) t m = absurd t
 merge_grew s r Cut (Withdrawn removed end) t m = absurd m
-merge_grew s r Cut (Merged cells first) t m = absurd t
-merge_grew s r Cut (Deferred cells cycle) t m = absurd t
-merge_grew s r Cut (Retried first) t m = absurd t
-merge_grew s r Cut Canceled t m = absurd t
-merge_grew s r Cut (Replanned cells first) t m = absurd t
-merge_grew s r Cut (Reported event) t m = absurd t
 merge_grew s r (Did e) (Reported event) t m = absurd m
-merge_grew s r (Did e) (Merged cells first) t m = absurd t
-merge_grew s r (Did e) (Deferred cells cycle) t m = absurd t
-merge_grew s r (Did e) (Retried first) t m = absurd t
-merge_grew s r (Did e) Canceled t m = absurd t
-merge_grew s r (Did e) (Withdrawn removed end) t m = absurd t
-merge_grew s r (Did e) (Replanned cells first) t m = absurd t
+merge_grew s r c a t m = absurd t
 
 -- an entry Merged put its route into the plan
 merged_grew : (s : State) (r : ℕ) (c : Change) (cells : List CellNo) (first : EventNo) → CanChange s r c → Tells s r c (Merged cells first) → CanChange s r (Grew cells)
 merged_grew s r (Grew route) cells first can t = subst (λ x. CanChange s r (Grew x)) t.0 can
-merged_grew s r (Kept route) cells first can t = absurd t
-merged_grew s r Dropped cells first can t = absurd t
-merged_grew s r Cut cells first can t = absurd t
-merged_grew s r (Did e) cells first can t = absurd t
+merged_grew s r c cells first can t = absurd t
 
 -- an entry Deferred kept its route, and names the cycle in the state behind it
 record IsKeptAs (s : State) (r : ℕ) (c : Change) (cells : List CellNo) (cycle : List RobotNo) : Type 0 where
@@ -89,10 +63,7 @@ deferred_kept s r (Kept route) cells cycle can t = record {
   is = ap (λ x. Kept x) t.0;
   names = t.1 ∙ ap (λ x. robots_of (cycle_of (deferring s r x) r)) t.0;
 }
-deferred_kept s r (Grew route) cells cycle can t = absurd t
-deferred_kept s r Dropped cells cycle can t = absurd t
-deferred_kept s r Cut cells cycle can t = absurd t
-deferred_kept s r (Did e) cells cycle can t = absurd t
+deferred_kept s r c cells cycle can t = absurd t
 
 numbers_of-robots_of : (numbers : List ℕ) → numbers_of (robots_of numbers) ≡ numbers
 numbers_of-robots_of [] = refl
@@ -185,12 +156,7 @@ last_first members robot (Deferred route cycle) entries none (inl t) =
     let m = any_In (λ q. q == robot.0) members t in
     inr (record { before = []; robot = robot; route = route; cycle = cycle; behind = entries; splits = refl; member = subst (λ x. In x members) (eqb-true m.0 robot.0 m.2) m.1; last = none })
 last_first members robot act entries none (inr f) = inl (none_more members (record { robot = robot; act = act }) entries (λ m d. absent_out robot.0 members f m) none)
-last_first members robot (Merged route first) entries none t = inl (none_more members (record { robot = robot; act = Merged route first }) entries (λ m d. d) none)
-last_first members robot (Retried first) entries none t = inl (none_more members (record { robot = robot; act = Retried first }) entries (λ m d. d) none)
-last_first members robot Canceled entries none t = inl (none_more members (record { robot = robot; act = Canceled }) entries (λ m d. d) none)
-last_first members robot (Withdrawn removed end) entries none t = inl (none_more members (record { robot = robot; act = Withdrawn removed end }) entries (λ m d. d) none)
-last_first members robot (Replanned route first) entries none t = inl (none_more members (record { robot = robot; act = Replanned route first }) entries (λ m d. d) none)
-last_first members robot (Reported event) entries none t = inl (none_more members (record { robot = robot; act = Reported event }) entries (λ m d. d) none)
+last_first members robot act entries none t = inl (none_more members (record { robot = robot; act = act }) entries (λ m d. d) none)
 
 last_deferral : (members : List ℕ) (journal : List Entry) → NoneDefers members journal ⊎ LastDeferral members journal
 last_deferral members [] = inl (λ entry i. elim i [ ])
