@@ -6,94 +6,43 @@ use Rattle.std.specs.Prelude.{slice_get, nat_lt, nat_le, Ok}
 use Rattle.std.specs.List.{filter}
 use Rattle.std.proofs.lemmas.List.{length-append}
 use Rattle.std.proofs.lemmas.List.Elements.{filter-append}
-use Rattle.std.proofs.lemmas.List.Sums.{length-filter, count_by-le-length}
 use Rattle.std.specs.Option.{is_some, is_none, option_map, option_and_then, unwrap_or}
-use Rattle.fleet_base.specs.Lists.{robots_of}
 use Rattle.fleet_base.specs.declared.entries.Act.{Act}
 use Rattle.fleet_base.specs.declared.entries.Act.TheVariants.{Merged, Deferred, Retried, Canceled, Withdrawn, Replanned, Reported}
 use Rattle.fleet_base.specs.declared.entries.Entry.{Entry}
 use Rattle.fleet_base.specs.declared.answers.Block.{Block}
-use Rattle.fleet_base.specs.declared.answers.CancelRefused.TheVariants as cancel_refused
 use Rattle.fleet_base.specs.declared.answers.Look.{Look}
-use Rattle.fleet_base.specs.declared.answers.ProposeRefused.TheVariants as propose_refused
-use Rattle.fleet_base.specs.declared.answers.ReplanRefused.TheVariants as replan_refused
-use Rattle.fleet_base.specs.declared.answers.ReportRefused.TheVariants as report_refused
-use Rattle.fleet_base.specs.declared.answers.RetryRefused.TheVariants as retry_refused
 use Rattle.fleet_base.specs.declared.answers.UnknownRobot.{UnknownRobot}
-use Rattle.fleet_base.specs.declared.answers.WithdrawRefused.TheVariants as withdraw_refused
 use Rattle.fleet_base.specs.declared.answers.Withdrawn.{Withdrawn as Removed}
 use Rattle.fleet_base.specs.declared.numbers.CellNo.{CellNo}
-use Rattle.fleet_base.specs.declared.numbers.ClaimNo.{ClaimNo}
 use Rattle.fleet_base.specs.declared.numbers.Event.{Event}
 use Rattle.fleet_base.specs.declared.numbers.EventNo.{EventNo}
-use Rattle.fleet_base.specs.declared.numbers.Kind.{Kind}
 use Rattle.fleet_model.specs.Lists.{In, here, when, first_some}
 use Rattle.fleet_model.specs.Sites.{Site, IsSite, is_linked, IsWalk, IsWalkFrom, needs, steps}
-use Rattle.fleet_model.specs.Plans.{Fleet, own, unfinished, is_done, is_awaited, after, awaited, latest, IsBehind, IsReady, IsRoute, IsBlocker, end_of, merged, numbered, route_events, removable_tail, withdrawn}
+use Rattle.fleet_model.specs.Plans.{Fleet, own, unfinished, is_done, is_awaited, after, awaited, latest, IsBehind, IsReady, IsRoute, end_of, merged, route_events, removable_tail, withdrawn}
 use Rattle.fleet_model.specs.Deferral.{ends, least_blocker}
-use Rattle.fleet_model.specs.States.{State, is_robot, pending_of, pending_route, owed, is_full, cycle_of, block_of}
+use Rattle.fleet_model.specs.States.{State, is_robot, pending_of, pending_route, owed, is_full, block_of}
 use Rattle.fleet_model.specs.Calls.{Step, unless, unless_refused, propose_refusals, retry_refusals, cancel_refusals, withdraw_refusals, replan_refusals, report_refusals, accepted, moved, with_route, deferring, first_of, first_unlinked, unlinked_at, begin_at, propose_growth, propose_outcome, propose, detour_of, next_event, waits_on, is_number, reported, span_of, retry, cancel, withdraw, replan, report, look_of, Call, Propose, Retry, Cancel, Withdraw, Replan, Report, LookAt, turn, has_cell}
 use Rattle.fleet_model.specs.Good.{IsAscending, IsGoodPlan, IsGood}
 use Rattle.fleet_model.proofs.Lists.{In-nil, In_either, In-append_right, In-filter, In_unfilter, length_In, some_one}
 use Rattle.fleet_model.proofs.Options.{not_none, none_of, map_none, map_some, when_none}
 use Rattle.fleet_model.proofs.SameNumbers.{same_cell, same_number}
 use Rattle.fleet_model.proofs.Numbers.{from_one, IsAscending-own, IsAscending-filter, own_In, In_own, low_bound, done_in, done_right, done_parts}
-use Rattle.fleet_model.proofs.Counts.{emptied_le, emptied_less, filled_le, filter_less, filter_misses}
 use Rattle.fleet_model.proofs.Leasts.{least_none}
 use Rattle.fleet_model.proofs.Detours.{detour_route, detour_free}
 use Rattle.fleet_model.proofs.Tails.{tail_is}
 use Rattle.fleet_model.proofs.Blockers.{none_unblocked, found_blocks}
 use Rattle.fleet_model.proofs.Deferrals.{pending_is}
-use Rattle.fleet_model.proofs.Further.{filter_swap}
-
--- what an accepted call did: it put a route into the plan, kept one as pending, dropped the pending one, cut the removable tail, or finished an event
-pub data Change : Type 0 where
-  Grew : List CellNo → Change
-  Kept : List CellNo → Change
-  Dropped : Change
-  Cut : Change
-  Did : Event → Change
-
-abbrev pub changed : State → ℕ → Change → State
-changed s r (Grew route) = with_route s r route
-changed s r (Kept route) = deferring s r route
-changed s r Dropped = moved s s.fleet r None
-changed s r Cut = moved s (withdrawn s.fleet (removable_tail s.fleet r)) r None
-changed s r (Did e) = record s { fleet = reported s.fleet (Some e); count = s.count + 1 }
-
-abbrev pub HasStart : Fleet → ℕ → Type 0
-HasStart m r = (a : CellNo) × (slice_get m.starts r ≡ Some a)
-
-abbrev pub IsClear : Fleet → ℕ → List CellNo → Type 0
-IsClear m r route = (c : ClaimNo) (q : ℕ) → IsBlocker m r route c q → ⊥
-
--- where the change can be made
-abbrev pub CanChange : State → ℕ → Change → Type 0
-CanChange s r (Grew route) = HasStart s.fleet r × IsRoute s.fleet r route × IsClear s.fleet r route
-CanChange s r (Kept route) = (pending_of s r ≡ None) × IsRoute s.fleet r route × ((c : ClaimNo) × (q : ℕ) × IsBlocker s.fleet r route c q)
-CanChange s r Dropped = (route : List CellNo) × (pending_of s r ≡ Some route)
-CanChange s r Cut = 1 ≤ length (removable_tail s.fleet r)
-CanChange s r (Did e) = (e.robot.0 ≡ r) × IsReady (IsBehind s.fleet.site.groups) s.fleet.plan s.fleet.finished e
-
--- what the entry tells of the change
-abbrev pub Tells : State → ℕ → Change → Act → Type 0
-Tells s r (Grew route) (Merged cells first) = (route ≡ cells) × (pending_of s r ≡ None)
-Tells s r (Grew route) (Retried first) = pending_of s r ≡ Some route
-Tells s r (Grew route) (Replanned cells first) = (route ≡ cells) × ((old : List CellNo) × (pending_of s r ≡ Some old))
-Tells s r (Kept route) (Deferred cells cycle) = (route ≡ cells) × (cycle ≡ robots_of (cycle_of (deferring s r route) r))
-Tells s r Dropped Canceled = Unit {0}
-Tells s r Cut (Withdrawn removed end) = Unit {0}
-Tells s r (Did e) (Reported event) = e.no ≡ event
-Tells s r _ _ = ⊥
-
--- all that is known of an accepted call
-pub record Accepts (s : State) (r : ℕ) (entry : Entry) (after : State) : Type 0 where
-  pub change : Change
-  pub can : CanChange s r change
-  pub room : s.count + 1 + owed (changed s r change) ≤ s.cap
-  pub after_is : after ≡ changed s r change
-  pub robot : entry.robot.0 ≡ r
-  pub tells : Tells s r change entry.act
+use Rattle.fleet_model.proofs.Pending.{emptied_le, emptied_less, filled_le}
+use Rattle.fleet_model.proofs.Filters.{filter_less, filter_misses, filter_swap, length-filter-le}
+use Rattle.fleet_model.proofs.Numbered.{length-numbered}
+use Rattle.fleet_model.proofs.Changes.{HasStart, IsClear, Tells, Accepts, Grew, Kept, Dropped, Cut, Did}
+use Rattle.fleet_base.specs.declared.answers.CancelRefused.TheVariants as cancel_refused
+use Rattle.fleet_base.specs.declared.answers.ProposeRefused.TheVariants as propose_refused
+use Rattle.fleet_base.specs.declared.answers.ReplanRefused.TheVariants as replan_refused
+use Rattle.fleet_base.specs.declared.answers.ReportRefused.TheVariants as report_refused
+use Rattle.fleet_base.specs.declared.answers.RetryRefused.TheVariants as retry_refused
+use Rattle.fleet_base.specs.declared.answers.WithdrawRefused.TheVariants as withdraw_refused
 
 -- none of these is there
 abbrev pub AllNone : {A : Type 0} → List (Option A) → Type 0
@@ -159,13 +108,6 @@ proposal s r cells block none = record {
   room = when_none (is_full s (propose_growth s cells block)) propose_refused.Full none.1.1.1.1.1.1.1.0;
 }
 
-pub length-numbered : (n r : ℕ) (ks : List Kind) → length (numbered n r ks) ≡ length ks
-length-numbered n r [] = refl
-length-numbered n r (k ∷ ks) = ap (λ m. suc m) (length-numbered (n + 1) r ks)
-
-filter_length : (p : Event → Bool) (es : List Event) → length (filter p es) ≤ length es
-filter_length p es = omega (arith, length-filter p es, count_by-le-length p es)
-
 -- what an accepted call's entry tells
 pub told : (r : ℕ) (act : Act) (entry : Entry) → Some (record { robot = record { 0 = r }; act = act }) ≡ Some entry → (entry.robot.0 ≡ r) × (entry.act ≡ act)
 told r act entry h = let e = same_Some (record { robot = record { 0 = r }; act = act }) entry h in (ap (λ (x : Entry). x.robot.0) (sym e), ap (λ (x : Entry). x.act) (sym e))
@@ -194,7 +136,7 @@ unfinished-merged : (m : Fleet) (r : ℕ) (route : List CellNo) → length (unfi
 unfinished-merged m r route =
     let undone : Event → Bool = λ e. not (is_done m.finished e) in
     let parts = ap length (filter-append undone m.plan (route_events m r route)) ∙ length-append (filter undone m.plan) (filter undone (route_events m r route)) in
-    let few = filter_length undone (route_events m r route) in
+    let few = length-filter-le undone (route_events m r route) in
     let all = length-numbered m.next r (steps m.site route) in
     omega arith
 

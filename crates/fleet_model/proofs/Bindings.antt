@@ -1,6 +1,5 @@
 -- Cycles of deferral last, and stood since the last deferral of a member.
-use Rattle.std.proofs.Common.{◌≡◌, ℕ, true, inl, inr, refl, sym, ap, ◌∙◌, subst, List, [], ◌∷◌, Option, Some, None, set, get_or}
-use Rattle.std.proofs.lemmas.List.{get_or-set_other}
+use Rattle.std.proofs.Common.{◌≡◌, ℕ, true, refl, sym, ap, ◌∙◌, subst, List, [], ◌∷◌, Some, None}
 use Rattle.std.proofs.lemmas.Option.{same_Some}
 use Rattle.std.specs.Prelude.{slice_get}
 use Rattle.fleet_base.specs.declared.entries.Act.{Act}
@@ -20,9 +19,10 @@ use Rattle.fleet_model.specs.Sound.{IsCycle, IsChange, IsDeferral, IsTrueTo, Non
 use Rattle.fleet_model.proofs.Lists.{In_either}
 use Rattle.fleet_model.proofs.Rotations.{cycle_closed, cycle_stands}
 use Rattle.fleet_model.proofs.Ends.{merged_end}
-use Rattle.fleet_model.proofs.Accepted.{Change, Grew, Kept, Dropped, Cut, Did, changed, CanChange, IsClear, Tells}
-use Rattle.fleet_model.proofs.Kept.{pending_cases, accepts_at, turn_good}
+use Rattle.fleet_model.proofs.GoodStates.{accepts_at, turn_good}
 use Rattle.fleet_model.proofs.Withdraw.{withdrawn_end}
+use Rattle.fleet_model.proofs.Changes.{Change, Grew, Kept, Dropped, Cut, Did, changed, CanChange, IsClear, Tells, same_site}
+use Rattle.fleet_model.proofs.Pending.{other_place, now_none}
 
 -- a deferral is there as long as the pending route of the one and the end of the other stay
 pub deferred_still : (s n : State) (r q : ℕ) → s.fleet.site ≡ n.fleet.site → s.fleet.starts ≡ n.fleet.starts → pending_of n r ≡ pending_of s r → end_of n.fleet q ≡ end_of s.fleet q → IsDeferredOn s r q → IsDeferredOn n r q
@@ -48,10 +48,6 @@ IsClosed s members = (r : ℕ) → In r members → (q : ℕ) × In q members ×
 abbrev KeepsTo : List ℕ → ℕ → Act → Type 0
 KeepsTo members t act = In t members → IsChange act → ⊥
 
--- a place that is set for robot t is another's as it was
-other_place : (ps : List (Option (List CellNo))) (t r : ℕ) (x : Option (List CellNo)) → (t ≡ r → ⊥) → get_or (set ps t x) r None ≡ get_or ps r None
-other_place ps t r x apart = get_or-set_other ps t r x None (λ e. apart (sym e))
-
 -- a deferral between two robots, neither of which is the one that acts, is there before the change as after it
 kept_apart : (s : State) → IsGoodPlan s.fleet → (t : ℕ) (c : Change) (r q : ℕ) → (t ≡ r → ⊥) → (t ≡ q → ⊥) → (pending_of (changed s t c) r ≡ pending_of s r) × (end_of (changed s t c).fleet q ≡ end_of s.fleet q)
 kept_apart s good t (Grew route) r q apart free = (other_place s.pending t r None apart, merged_end s.fleet t route q free)
@@ -59,13 +55,6 @@ kept_apart s good t (Kept route) r q apart free = (other_place s.pending t r (So
 kept_apart s good t Dropped r q apart free = (other_place s.pending t r None apart, refl)
 kept_apart s good t Cut r q apart free = (other_place s.pending t r None apart, withdrawn_end s.fleet t q good free)
 kept_apart s good t (Did e) r q apart free = (refl, refl)
-
-same_site : (s : State) (t : ℕ) (c : Change) → (s.fleet.site ≡ (changed s t c).fleet.site) × (s.fleet.starts ≡ (changed s t c).fleet.starts)
-same_site s t (Grew route) = (refl, refl)
-same_site s t (Kept route) = (refl, refl)
-same_site s t Dropped = (refl, refl)
-same_site s t Cut = (refl, refl)
-same_site s t (Did e) = (refl, refl)
 
 -- where the one that acts is no member, each deferral between members is there after the change
 apart_still : (s : State) → IsGoodPlan s.fleet → (members : List ℕ) (t : ℕ) (c : Change) → (In t members → ⊥) → (r q : ℕ) → In r members → In q members → IsDeferredOn s r q → IsDeferredOn (changed s t c) r q
@@ -89,10 +78,6 @@ IsReport c = (e : Event) × (c ≡ Did e)
 stays_apart : (s : State) → IsGoodPlan s.fleet → (members : List ℕ) (t : ℕ) (c : Change) → (In t members → IsReport c) → (r q : ℕ) → In r members → In q members → IsDeferredOn s r q → IsDeferredOn (changed s t c) r q
 stays_apart s good members t (Did e) out r q i j d = deferred_still s (changed s t (Did e)) r q refl refl refl refl d
 stays_apart s good members t c out r q i j d = apart_still s good members t c (λ k. let x = out k in let y = x.1 in cc) r q i j d
-
--- a member whose pending route was dropped or merged isn't deferred any more
-now_none : (ps : List (Option (List CellNo))) (t : ℕ) (route : List CellNo) → get_or (set ps t None) t None ≡ Some route → ⊥
-now_none ps t route p = elim (pending_cases ps t t None route p) [ inl a ↦ (let n = a.1 in cc) | inr a ↦ a.0 refl ]
 
 module _ (s : State) (members : List ℕ) (closed : IsClosed s members) where
   pends : (t : ℕ) → In t members → pending_of s t ≡ None → ⊥

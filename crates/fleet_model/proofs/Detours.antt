@@ -1,49 +1,24 @@
 -- A detour is a legal route without a blocker, and the detour to its last cell.
-use Rattle.std.proofs.Common.{◌≡◌, ◌≢◌, ℕ, ◌<◌, ◌≤◌, Bool, true, false, not, ◌&&◌, ◌==◌, ◌⊎◌, inl, inr, refl, sym, ap, ◌∙◌, subst, List, [], ◌∷◌, map, length, Some, arith, eq-eqb}
+use Rattle.std.proofs.Common.{◌≡◌, ◌≢◌, ℕ, ◌<◌, ◌≤◌, Bool, true, false, not, ◌&&◌, ◌==◌, refl, sym, ap, ◌∙◌, List, [], ◌∷◌, length, Some, arith, eq-eqb}
 use Rattle.std.proofs.lemmas.Bool.{both_ways, and_parts, and_from, or_left, not-true, not_from_false, eqb-true, ne_eqb}
 use Rattle.std.specs.Prelude.{slice_get}
 use Rattle.std.specs.List.{list_any, list_all}
 use Rattle.fleet_base.specs.declared.numbers.CellNo.{CellNo}
 use Rattle.fleet_base.specs.declared.numbers.ClaimNo.{ClaimNo}
-use Rattle.fleet_base.specs.declared.numbers.Kind.TheVariants.{Acquire, Move, Release}
 use Rattle.fleet_model.specs.Lists.{In, here, there, numbers_below}
-use Rattle.fleet_model.specs.Sites.{Site, IsSite, cell_count, footprint_of, has_claim, without, step, steps_from, last_cell}
+use Rattle.fleet_model.specs.Sites.{Site, IsSite, cell_count, footprint_of, last_cell}
 use Rattle.fleet_model.specs.Plans.{Fleet, end_of, IsRoute, IsBlocker}
 use Rattle.fleet_model.specs.Routes.{leads_to, IsLeastRoute}
 use Rattle.fleet_model.specs.Deferral.{ends, is_kept_by, is_shut_to}
 use Rattle.fleet_model.specs.Calls.{detour_of, has_cell}
 use Rattle.fleet_model.specs.Journals.{last_of}
-use Rattle.fleet_model.proofs.Lists.{In-append_cases, In_unmap, In_unfilter, In_below}
+use Rattle.fleet_model.proofs.Lists.{In_below}
 use Rattle.fleet_model.proofs.Tests.{any_In, In_any, all_In}
 use Rattle.fleet_model.proofs.SameNumbers.{same_cell}
 use Rattle.fleet_model.proofs.Blockers.{blocker_below, blocker_kept}
 use Rattle.fleet_model.proofs.Shortcuts.{simple_short}
 use Rattle.fleet_model.proofs.LeastRoutes.{least_route_least, least_route_found, least_route_simple}
-
--- what a step acquires is a claim of the cell that it leads to
-step_acquires : (site : Site) (a b : CellNo) (c : ClaimNo) → In (Acquire c) (step site a b) → In c (footprint_of site b)
-step_acquires site a b c m =
-    go (In-append_cases (map (λ (d : ClaimNo). Acquire d) (without (footprint_of site b) (footprint_of site a))) (Move a b ∷ map (λ (d : ClaimNo). Release d) (without (footprint_of site a) (footprint_of site b))) m)
-  where
-    behind : In (Acquire c) (Move a b ∷ map (λ (d : ClaimNo). Release d) (without (footprint_of site a) (footprint_of site b))) → ⊥
-    behind (here e) = absurd (cc)
-    behind (there k) = let d = In_unmap (λ (d : ClaimNo). Release d) (without (footprint_of site a) (footprint_of site b)) k in let e = d.2 in absurd (cc)
-
-    go : In (Acquire c) (map (λ (d : ClaimNo). Acquire d) (without (footprint_of site b) (footprint_of site a))) ⊎ In (Acquire c) (Move a b ∷ map (λ (d : ClaimNo). Release d) (without (footprint_of site a) (footprint_of site b))) → In c (footprint_of site b)
-    go (inl k) =
-        let d = In_unmap (λ (d : ClaimNo). Acquire d) (without (footprint_of site b) (footprint_of site a)) k in
-        let e : c ≡ d.0 = let f = d.2 in cc in
-        subst (λ x. In x (footprint_of site b)) (sym e) (In_unfilter (λ (x : ClaimNo). not (has_claim (footprint_of site a) x)) (footprint_of site b) d.1).0
-    go (inr k) = absurd (behind k)
-
--- what a walk acquires is a claim of one of its later cells
-pub steps_acquire : (site : Site) (a : CellNo) (bs : List CellNo) (c : ClaimNo) → In (Acquire c) (steps_from site a bs) → (b : CellNo) × In b bs × In c (footprint_of site b)
-steps_acquire site a [] c m = elim m [ ]
-steps_acquire site a (b ∷ bs) c m =
-    elim (In-append_cases (step site a b) (steps_from site b bs) m) [
-      | inl k ↦ (b, here refl, step_acquires site a b c k)
-      | inr k ↦ (let r = steps_acquire site b bs c k in (r.0, there r.1, r.2))
-    ]
+use Rattle.fleet_model.proofs.Steps.{steps_acquire}
 
 -- a cell with a claim that another robot's end keeps is shut
 pub shut_by : (m : Fleet) (r q : ℕ) (a : CellNo) (c : ClaimNo) → q ≢ r → q < length m.starts → In c (footprint_of m.site a) → is_kept_by m.site c (slice_get (ends m) q) ≡ true → is_shut_to m r a ≡ true

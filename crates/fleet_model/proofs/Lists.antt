@@ -66,12 +66,6 @@ module _ {A : Type 0} where
   In_split (y ∷ ys) (here e) = ([], ys, ap (λ z. z ∷ ys) (sym e))
   In_split (y ∷ ys) (there m) = let s = In_split ys m in (y ∷ s.0, s.1, ap (λ zs. y ∷ zs) s.2)
 
-  pub filter_in : (p : A → Bool) (x : A) (xs : List A) → p x ≡ true → filter p (x ∷ xs) ≡ x ∷ filter p xs
-  filter_in p x xs h = rw h refl
-
-  pub filter_out : (p : A → Bool) (x : A) (xs : List A) → p x ≡ false → filter p (x ∷ xs) ≡ filter p xs
-  filter_out p x xs h = rw h refl
-
 pub In-map : {A B : Type 0} (f : A → B) {x : A} (xs : List A) → In x xs → In (f x) (map f xs)
 In-map f [] m = elim m [ ]
 In-map f (y ∷ ys) (here e) = here (ap f e)

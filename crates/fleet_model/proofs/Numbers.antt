@@ -1,14 +1,15 @@
 -- Events in order of number, and which of them are done.
-use Rattle.std.proofs.Common.{◌≡◌, ◌≢◌, ℕ, ◌+◌, ◌<◌, ◌≤◌, Bool, true, false, cond, ◌==◌, ◌||◌, ◌⊎◌, inl, inr, refl, sym, ap, ◌∙◌, List, [], ◌∷◌, ◌++◌, arith, eq-eqb}
+use Rattle.std.proofs.Common.{◌≡◌, ◌≢◌, ℕ, ◌+◌, ◌<◌, ◌≤◌, Bool, true, false, cond, ◌==◌, ◌||◌, ◌⊎◌, inl, inr, refl, sym, ap, ◌∙◌, List, [], ◌∷◌, ◌++◌, arith, eq-eqb, map}
 use Rattle.std.proofs.lemmas.Bool.{eqb-true, ne_eqb, or_cases, or_parts, or_from, or_left, or_right, both_ways, false_from_ne_true}
-use Rattle.std.proofs.lemmas.List.{append-nil}
+use Rattle.std.proofs.lemmas.List.{append-nil, map-append}
 use Rattle.std.proofs.lemmas.List.Elements.{filter-append}
 use Rattle.std.specs.List.{filter, list_any}
 use Rattle.fleet_base.specs.declared.numbers.Event.{Event}
 use Rattle.fleet_model.specs.Lists.{In, here, there}
-use Rattle.fleet_model.specs.Plans.{Fleet, is_done, own}
+use Rattle.fleet_model.specs.Plans.{Fleet, is_done, own, kinds}
 use Rattle.fleet_model.specs.Good.{IsAscending, IsGoodPlan}
-use Rattle.fleet_model.proofs.Lists.{In-append_right, In-filter, In_unfilter, filter_in, filter_out}
+use Rattle.fleet_model.proofs.Lists.{In-append_right, In-filter, In_unfilter}
+use Rattle.fleet_model.proofs.Filters.{filter_in, filter_out}
 
 -- an event of the list is done by it
 pub done_in : {e : Event} (done : List Event) → In e done → is_done done e ≡ true
@@ -126,3 +127,11 @@ done_none xs e h = false_from_ne_true (is_done xs e) (λ t. let g = done_event e
 -- the numbers of a good plan rise from 1 on
 pub from_one : (m : Fleet) → IsGoodPlan m → IsAscending 1 m.plan
 from_one m good = IsAscending_lower m.first 1 m.plan good.first good.numbers
+
+-- events below a number and events from it on rise together
+pub ascending-append : (low next : ℕ) (xs ys : List Event) → low ≤ next → ((e : Event) → In e xs → e.no.0 < next) → IsAscending low xs → IsAscending next ys → IsAscending low (xs ++ ys)
+ascending-append low next [] ys l f h g = IsAscending_lower next low ys l g
+ascending-append low next (x ∷ xs) ys l f h g = (h.0, ascending-append (x.no.0 + 1) next xs ys (let b = f x (here refl) in omega arith) (λ e m. f e (there m)) h.1 g)
+
+pub kinds-append : (q : ℕ) (xs ys : List Event) → kinds q (xs ++ ys) ≡ kinds q xs ++ kinds q ys
+kinds-append q xs ys = ap (λ es. map (λ (e : Event). e.kind) es) (own-append q xs ys) ∙ map-append (λ (e : Event). e.kind) (own q xs) (own q ys)

@@ -5,7 +5,6 @@ use Rattle.std.proofs.lemmas.Option.{slice_get_within}
 use Rattle.std.specs.Prelude.{slice_get}
 use Rattle.std.specs.Option.{option_map}
 use Rattle.fleet_base.specs.declared.answers.ReportRefused.{ReportRefused}
-use Rattle.fleet_base.specs.declared.answers.ReportRefused.TheVariants as report_refused
 use Rattle.fleet_base.specs.declared.entries.Act.{Act}
 use Rattle.fleet_base.specs.declared.entries.Act.TheVariants.{Withdrawn, Reported}
 use Rattle.fleet_base.specs.declared.entries.Entry.{Entry}
@@ -25,10 +24,12 @@ use Rattle.fleet_model.specs.Sound.{IsWithdrawal}
 use Rattle.fleet_model.proofs.Lists.{In-nil, In_either, In-filter, In_unfilter, In-map, none_in}
 use Rattle.fleet_model.proofs.SameNumbers.{same_number}
 use Rattle.fleet_model.proofs.Numbers.{from_one, IsAscending-own, IsAscending-filter, own_In, In_own, low_bound}
-use Rattle.fleet_model.proofs.Further.{ready_merged, ready_reported}
+use Rattle.fleet_model.proofs.Readiness.{ready_merged, ready_reported}
 use Rattle.fleet_model.proofs.Withdraw.{ready_withdrawn}
-use Rattle.fleet_model.proofs.Accepted.{Change, Grew, Kept, Dropped, Cut, Did, changed, CanChange, Tells, nothing}
-use Rattle.fleet_model.proofs.Kept.{accepts_at, report_good}
+use Rattle.fleet_model.proofs.Accepted.{nothing}
+use Rattle.fleet_model.proofs.GoodStates.{accepts_at, report_good}
+use Rattle.fleet_model.proofs.Changes.{Change, Grew, Kept, Dropped, Cut, Did, changed, CanChange, Tells}
+use Rattle.fleet_base.specs.declared.answers.ReportRefused.TheVariants as report_refused
 
 -- a ready event is the first unfinished one of its robot
 pub ready_next : (m : Fleet) (e : Event) → IsGoodPlan m → IsReady (IsBehind m.site.groups) m.plan m.finished e → next_event m e.robot.0 ≡ Some e

@@ -23,13 +23,13 @@ use Rattle.fleet_model.proofs.Lists.{In_either}
 use Rattle.fleet_model.proofs.Good.{good_safe, ready_event}
 use Rattle.fleet_model.proofs.Merge.{allowed_still}
 use Rattle.fleet_model.proofs.Insert.{blocked_unsafe}
-use Rattle.fleet_model.proofs.Least.{unblocked_safe}
+use Rattle.fleet_model.proofs.LeastMerge.{unblocked_safe}
 use Rattle.fleet_model.proofs.Distinct.{absent_out}
 use Rattle.fleet_model.proofs.Rotations.{least_is_cycle, cycle_of_some, deferrals_turn}
 use Rattle.fleet_model.proofs.Deferrals.{cycle_of_least}
-use Rattle.fleet_model.proofs.Accepted.{Change, Grew, Kept, Dropped, Cut, Did, changed, CanChange, Accepts, Tells}
-use Rattle.fleet_model.proofs.Kept.{accepts_at, turn_good, journal_good}
+use Rattle.fleet_model.proofs.GoodStates.{accepts_at, turn_good, journal_good}
 use Rattle.fleet_model.proofs.Bindings.{cycle_binds, cycle_stood}
+use Rattle.fleet_model.proofs.Changes.{Change, Grew, Kept, Dropped, Cut, Did, changed, CanChange, Accepts, Tells}
 
 pub sound_state : (s : State) → IsSite s.fleet.site → IsGood s → IsSoundState s
 sound_state s is_site good = record {

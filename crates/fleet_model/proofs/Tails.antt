@@ -7,41 +7,16 @@ use Rattle.std.specs.Prelude.{slice_get, find}
 use Rattle.std.specs.List.{list_any}
 use Rattle.std.specs.Option.{unwrap_or}
 use Rattle.fleet_base.specs.declared.numbers.CellNo.{CellNo}
-use Rattle.fleet_base.specs.declared.numbers.ClaimNo.{ClaimNo}
 use Rattle.fleet_base.specs.declared.numbers.Event.{Event}
 use Rattle.fleet_base.specs.declared.numbers.Kind.{Kind}
-use Rattle.fleet_base.specs.declared.numbers.Kind.TheVariants.{Acquire, Move, Release}
 use Rattle.fleet_model.specs.Lists.{In, here, there}
-use Rattle.fleet_model.specs.Sites.{Site, footprint_of, without, step, steps_from, IsWalkFrom, rest_points, moved_to, last_cell}
+use Rattle.fleet_model.specs.Sites.{Site, step, steps_from, IsWalkFrom, rest_points, moved_to, last_cell}
 use Rattle.fleet_model.specs.Replays.{AreSteps}
 use Rattle.fleet_model.specs.Plans.{Fleet, own, kinds, is_done, is_awaited, rests_of, is_removable, removable_tail, IsRemovableTail}
 use Rattle.fleet_model.specs.Good.{IsGoodPlan}
 use Rattle.fleet_model.proofs.Lists.{In_either, In-map, In_unmap}
 use Rattle.fleet_model.proofs.Tests.{any_none, none_any, In_all, all_In}
-use Rattle.fleet_model.proofs.Grown.{steps-append}
-
-moved_to-append : (js ks : List Kind) → moved_to (js ++ ks) ≡ moved_to js ++ moved_to ks
-moved_to-append [] ks = refl
-moved_to-append (Acquire c ∷ js) ks = moved_to-append js ks
-moved_to-append (Move a b ∷ js) ks = ap (λ cs. b ∷ cs) (moved_to-append js ks)
-moved_to-append (Release c ∷ js) ks = moved_to-append js ks
-
-moved_to-acquires : (cs : List ClaimNo) → moved_to (map (λ c. Acquire c) cs) ≡ []
-moved_to-acquires [] = refl
-moved_to-acquires (c ∷ cs) = moved_to-acquires cs
-
-moved_to-releases : (cs : List ClaimNo) → moved_to (map (λ c. Release c) cs) ≡ []
-moved_to-releases [] = refl
-moved_to-releases (c ∷ cs) = moved_to-releases cs
-
-moved_to-step : (site : Site) (a b : CellNo) → moved_to (step site a b) ≡ b ∷ []
-moved_to-step site a b =
-    moved_to-append (map (λ c. Acquire c) (without (footprint_of site b) (footprint_of site a))) (Move a b ∷ map (λ c. Release c) (without (footprint_of site a) (footprint_of site b)))
-    ∙ rw (moved_to-acquires (without (footprint_of site b) (footprint_of site a)), moved_to-releases (without (footprint_of site a) (footprint_of site b))) refl
-
-pub moved_to-steps : (site : Site) (a : CellNo) (cells : List CellNo) → moved_to (steps_from site a cells) ≡ cells
-moved_to-steps site a [] = refl
-moved_to-steps site a (b ∷ bs) = moved_to-append (step site a b) (steps_from site b bs) ∙ rw (moved_to-step site a b, moved_to-steps site b bs) refl
+use Rattle.fleet_model.proofs.Steps.{steps-append, walk_front, moved_to-append, moved_to-steps}
 
 -- a place of rest of a walk: a beginning of the walk and what is behind it
 pub record IsRest (site : Site) (a : CellNo) (cells : List CellNo) (n : ℕ) : Type 0 where
@@ -123,11 +98,6 @@ removable_at : (m : Fleet) (tail : List Event) (f : Event) → In f tail → is_
 removable_at m tail f i h =
     let a = and_parts (not (is_done m.finished f)) (not (list_any (λ e. is_awaited m.site.groups e f) m.plan)) (all_In (λ f. not (is_done m.finished f) && not (list_any (λ e. is_awaited m.site.groups e f) m.plan)) tail h i) in
     (not-true (is_done m.finished f) a.0, not-true (list_any (λ e. is_awaited m.site.groups e f) m.plan) a.1)
-
--- a beginning of a walk is a walk
-walk_front : (site : Site) (a : CellNo) (front back : List CellNo) → IsWalkFrom site a (front ++ back) → IsWalkFrom site a front
-walk_front site a [] back h = tt
-walk_front site a (b ∷ bs) back h = (h.0, walk_front site b bs back h.1)
 
 abbrev kinds_of : List Event → List Kind
 kinds_of es = map (λ (e : Event). e.kind) es

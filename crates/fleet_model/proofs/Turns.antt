@@ -28,7 +28,7 @@ use Rattle.fleet_model.proofs.Options.{not_none, when_none}
 use Rattle.fleet_model.proofs.SameNumbers.{same_cell}
 use Rattle.fleet_model.proofs.Detours.{detour_least, detour_to_last}
 use Rattle.fleet_model.proofs.Accepted.{AllNone, IsAccepted, unless_accepted, told, no_entry, nothing}
-use Rattle.fleet_model.proofs.Kept.{turn_good}
+use Rattle.fleet_model.proofs.GoodStates.{turn_good}
 
 -- the entry's own call gives the entry and the same state
 pub record IsOwnCall (s : State) (r : ℕ) (call : Call) (entry : Entry) : Type 0 where

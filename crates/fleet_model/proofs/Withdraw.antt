@@ -12,21 +12,14 @@ use Rattle.fleet_model.specs.Sites.{in_conflict}
 use Rattle.fleet_model.specs.Replays.{AreSteps}
 use Rattle.fleet_model.specs.Plans.{Fleet, own, kinds, end_of, is_done, IsReady, IsBehind, IsOrder, withdrawn, removable_tail, IsRemovableTail}
 use Rattle.fleet_model.specs.Good.{IsAscending, IsGoodPlan, Opens, Closes}
-use Rattle.fleet_model.proofs.Lists.{In-append_right, In-filter, In_unfilter, filter_in, filter_out}
+use Rattle.fleet_model.proofs.Lists.{In-append_right, In-filter, In_unfilter}
 use Rattle.fleet_model.proofs.Numbers.{IsAscending-filter, IsAscending-own, ascending_apart, one_event, own_In, done_in, done_event, done_none, from_one}
 use Rattle.fleet_model.proofs.Claims.{conflict_symmetric}
 use Rattle.fleet_model.proofs.Safe.{awaited_from}
 use Rattle.fleet_model.proofs.Ends.{end_same}
-use Rattle.fleet_model.proofs.Further.{filter_swap, ready_stays}
+use Rattle.fleet_model.proofs.Readiness.{ready_stays}
 use Rattle.fleet_model.proofs.Tails.{tail_is}
-
-pub filter_all : (p : Event → Bool) (es : List Event) → ((e : Event) → In e es → p e ≡ true) → filter p es ≡ es
-filter_all p [] h = refl
-filter_all p (e ∷ es) h = filter_in p e es (h e (here refl)) ∙ ap (λ zs. e ∷ zs) (filter_all p es (λ x i. h x (there i)))
-
-pub filter_none : (p : Event → Bool) (es : List Event) → ((e : Event) → In e es → p e ≡ false) → filter p es ≡ []
-filter_none p [] h = refl
-filter_none p (e ∷ es) h = filter_out p e es (h e (here refl)) ∙ filter_none p es (λ x i. h x (there i))
+use Rattle.fleet_model.proofs.Filters.{filter_swap, filter_all, filter_none}
 
 module _ (m : Fleet) (r : ℕ) (tail : List Event) (good : IsGoodPlan m) (removable : IsRemovableTail m r tail) where
   abbrev after : Fleet

@@ -1,35 +1,17 @@
--- How much is pending and unfinished.
-use Rattle.std.proofs.Common.{zero, suc, ◌≡◌, ℕ, ◌+◌, ◌≤◌, Bool, true, false, cond, refl, sym, ap, ◌∙◌, List, [], ◌∷◌, length, arith, Option, Some, None, set, get_or}
+-- What a filter keeps, and how much.
+use Rattle.std.proofs.Common.{◌≡◌, ◌+◌, ◌≤◌, Bool, true, false, cond, refl, sym, ap, ◌∙◌, List, [], ◌∷◌, length, arith}
 use Rattle.std.proofs.lemmas.Bool.{both_ways}
-use Rattle.std.proofs.lemmas.List.Sums.{length-filter, count_by-le-length}
 use Rattle.std.specs.List.{filter}
-use Rattle.std.specs.Option.{is_some}
 use Rattle.fleet_model.specs.Lists.{In, here, there}
+use Rattle.std.proofs.lemmas.List.Sums.{length-filter, count_by-le-length}
+use Rattle.fleet_base.specs.declared.numbers.Event.{Event}
 
 module _ {A : Type 0} where
-  -- a place that is emptied leaves at most as many
-  pub emptied_le : (ps : List (Option A)) (r : ℕ) → length (filter is_some (set ps r None)) ≤ length (filter is_some ps)
-  emptied_le [] r = omega arith
-  emptied_le (None ∷ ps) zero = omega arith
-  emptied_le (Some x ∷ ps) zero = omega arith
-  emptied_le (None ∷ ps) (suc r) = let h = emptied_le ps r in omega arith
-  emptied_le (Some x ∷ ps) (suc r) = let h = emptied_le ps r in omega arith
+  pub filter_in : (p : A → Bool) (x : A) (xs : List A) → p x ≡ true → filter p (x ∷ xs) ≡ x ∷ filter p xs
+  filter_in p x xs h = rw h refl
 
-  -- a place that is taken and emptied leaves one less
-  pub emptied_less : (ps : List (Option A)) (r : ℕ) (x : A) → get_or ps r None ≡ Some x → length (filter is_some (set ps r None)) + 1 ≡ length (filter is_some ps)
-  emptied_less [] r x h = absurd (cc)
-  emptied_less (None ∷ ps) zero x h = absurd (cc)
-  emptied_less (Some y ∷ ps) zero x h = omega arith
-  emptied_less (None ∷ ps) (suc r) x h = let k = emptied_less ps r x h in omega arith
-  emptied_less (Some y ∷ ps) (suc r) x h = let k = emptied_less ps r x h in omega arith
-
-  -- a place that is filled adds at most one
-  pub filled_le : (ps : List (Option A)) (r : ℕ) (x : A) → length (filter is_some (set ps r (Some x))) ≤ length (filter is_some ps) + 1
-  filled_le [] r x = omega arith
-  filled_le (None ∷ ps) zero x = omega arith
-  filled_le (Some y ∷ ps) zero x = omega arith
-  filled_le (None ∷ ps) (suc r) x = let k = filled_le ps r x in omega arith
-  filled_le (Some y ∷ ps) (suc r) x = let k = filled_le ps r x in omega arith
+  pub filter_out : (p : A → Bool) (x : A) (xs : List A) → p x ≡ false → filter p (x ∷ xs) ≡ filter p xs
+  filter_out p x xs h = rw h refl
 
   filter_le_step : (p q : A → Bool) (x : A) (xs : List A) (a b : Bool) → (a ≡ true → b ≡ true) → length (filter p xs) ≤ length (filter q xs) → length (cond a (x ∷ filter p xs) (filter p xs)) ≤ length (cond b (x ∷ filter q xs) (filter q xs))
   filter_le_step p q x xs true true f rest = omega arith
@@ -62,3 +44,30 @@ module _ {A : Type 0} where
   filter_misses p [] z m n = elim m [ ]
   filter_misses p (x ∷ xs) z (here e) n = rw (ap p (sym e) ∙ n) (let k = length-filter p xs in let j = count_by-le-length p xs in omega arith)
   filter_misses p (x ∷ xs) z (there m) n = filter_misses_step p x xs (p x) (filter_misses p xs z m n)
+
+-- a filter keeps no more elements than there are
+pub length-filter-le : {A : Type 0} (p : A → Bool) (xs : List A) → length (filter p xs) ≤ length xs
+length-filter-le p [] = omega arith
+length-filter-le p (x ∷ xs) = go (p x) (length-filter-le p xs)
+  where
+    go : (b : Bool) → length (filter p xs) ≤ length xs → length (cond b (x ∷ filter p xs) (filter p xs)) ≤ length (x ∷ xs)
+    go true l = omega arith
+    go false l = omega arith
+
+pub filter_all : (p : Event → Bool) (es : List Event) → ((e : Event) → In e es → p e ≡ true) → filter p es ≡ es
+filter_all p [] h = refl
+filter_all p (e ∷ es) h = filter_in p e es (h e (here refl)) ∙ ap (λ zs. e ∷ zs) (filter_all p es (λ x i. h x (there i)))
+
+pub filter_none : (p : Event → Bool) (es : List Event) → ((e : Event) → In e es → p e ≡ false) → filter p es ≡ []
+filter_none p [] h = refl
+filter_none p (e ∷ es) h = filter_out p e es (h e (here refl)) ∙ filter_none p es (λ x i. h x (there i))
+
+filter_swap_step : (p q : Event → Bool) (x : Event) (ps qs : List Event) (a b : Bool) → p x ≡ a → q x ≡ b → filter p qs ≡ filter q ps → filter p (cond b (x ∷ qs) qs) ≡ filter q (cond a (x ∷ ps) ps)
+filter_swap_step p q x ps qs true true h g ih = rw (h, g) (ap (λ zs. x ∷ zs) ih)
+filter_swap_step p q x ps qs true false h g ih = rw g ih
+filter_swap_step p q x ps qs false true h g ih = rw h ih
+filter_swap_step p q x ps qs false false h g ih = ih
+
+pub filter_swap : (p q : Event → Bool) (xs : List Event) → filter p (filter q xs) ≡ filter q (filter p xs)
+filter_swap p q [] = refl
+filter_swap p q (x ∷ xs) = filter_swap_step p q x (filter p xs) (filter q xs) (p x) (q x) refl refl (filter_swap p q xs)

@@ -1,5 +1,5 @@
 -- Each accepted call keeps a state good.
-use Rattle.std.proofs.Common.{zero, suc, ◌≡◌, ◌≢◌, ℕ, ◌+◌, ◌*◌, ◌≤◌, true, ◌⊎◌, inl, inr, refl, sym, ap, ◌∙◌, subst, List, [], ◌∷◌, ◌++◌, length, arith, Option, Some, None, set, get_or}
+use Rattle.std.proofs.Common.{◌≡◌, ◌≢◌, ℕ, ◌+◌, ◌*◌, ◌≤◌, true, inl, inr, refl, sym, ◌∙◌, subst, List, [], ◌∷◌, ◌++◌, length, arith, Option, Some, None, set, get_or}
 use Rattle.std.proofs.lemmas.List.{length-set}
 use Rattle.std.proofs.lemmas.Option.{same_Some}
 use Rattle.std.specs.Prelude.{slice_get}
@@ -14,18 +14,13 @@ use Rattle.fleet_model.specs.States.{State, opening_state, pending_of, owed}
 use Rattle.fleet_model.specs.Good.{IsGoodPlan, IsGood, IsOpening, Opens}
 use Rattle.fleet_model.specs.Journals.{turn_at, call_of, IsJournal, state_after}
 use Rattle.fleet_model.proofs.Ends.{merged_end, route_still}
-use Rattle.fleet_model.proofs.Grown.{merge_good}
-use Rattle.fleet_model.proofs.Accepted.{Change, Grew, Kept, Dropped, Cut, Did, changed, CanChange, Accepts, accepts}
+use Rattle.fleet_model.proofs.GoodMerge.{merge_good}
+use Rattle.fleet_model.proofs.Accepted.{accepts}
 use Rattle.fleet_model.proofs.StepCounts.{steps_few}
 use Rattle.fleet_model.proofs.Withdraw.{withdrawn_good, withdrawn_end}
+use Rattle.fleet_model.proofs.Changes.{Change, Grew, Kept, Dropped, Cut, Did, changed, CanChange, Accepts}
+use Rattle.fleet_model.proofs.Pending.{pending_cases}
 use Rattle.fleet_model.proofs.Orders as orders
-
-pub pending_cases : (ps : List (Option (List CellNo))) (s r : ℕ) (x : Option (List CellNo)) (y : List CellNo) → get_or (set ps s x) r None ≡ Some y → ((s ≡ r) × (x ≡ Some y)) ⊎ ((s ≡ r → ⊥) × (get_or ps r None ≡ Some y))
-pending_cases [] s r x y h = absurd (cc)
-pending_cases (p ∷ ps) zero zero x y h = inl (refl, h)
-pending_cases (p ∷ ps) zero (suc r) x y h = inr (λ e. omega arith, h)
-pending_cases (p ∷ ps) (suc s) zero x y h = inr (λ e. omega arith, h)
-pending_cases (p ∷ ps) (suc s) (suc r) x y h = elim (pending_cases ps s r x y h) [ inl a ↦ inl (ap (λ n. suc n) a.0, a.1) | inr a ↦ inr (λ e. a.0 (omega arith), a.1) ]
 
 -- a report of a ready event keeps a plan good
 pub report_good : (m : Fleet) (e : Event) → IsGoodPlan m → IsReady (IsBehind m.site.groups) m.plan m.finished e → IsGoodPlan (record m { finished = m.finished ++ e ∷ [] })

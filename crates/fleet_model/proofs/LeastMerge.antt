@@ -1,5 +1,5 @@
 -- The merge against all insertions.
-use Rattle.std.proofs.Common.{◌≡◌, ◌≢◌, ℕ, ◌<◌, ◌≤◌, Bool, true, false, not, ◌==◌, ◌&&◌, ◌⊎◌, inl, inr, refl, sym, ap, ◌∙◌, subst, List, [], ◌∷◌, ◌++◌, map, arith, Some, append_assoc}
+use Rattle.std.proofs.Common.{◌≡◌, ◌≢◌, ℕ, ◌<◌, ◌≤◌, Bool, true, false, not, ◌==◌, ◌&&◌, ◌⊎◌, inl, inr, refl, sym, ap, ◌∙◌, subst, List, [], ◌∷◌, ◌++◌, map, Some, append_assoc}
 use Rattle.std.proofs.lemmas.Bool.{both_ways, cases_Bool, cases_lt, not-true, not_from_false, and_parts, eqb-false}
 use Rattle.std.specs.Prelude.{slice_get, nat_lt}
 use Rattle.std.specs.List.{filter}
@@ -16,9 +16,10 @@ use Rattle.fleet_model.specs.Good.{IsGoodPlan}
 use Rattle.fleet_model.proofs.Lists.{In_equal, In-append_left, In-append_right, In-append_cases, In-filter, In_unfilter, In-map, In_unmap}
 use Rattle.fleet_model.proofs.Numbers.{done_left}
 use Rattle.fleet_model.proofs.Good.{good_safe}
-use Rattle.fleet_model.proofs.Merge.{numbered-robot}
-use Rattle.fleet_model.proofs.Grown.{merge_good}
+use Rattle.fleet_model.proofs.GoodMerge.{merge_good}
 use Rattle.fleet_model.proofs.Insert.{not_waiting}
+use Rattle.fleet_model.proofs.Numbered.{numbered-robot}
+use Rattle.fleet_model.proofs.Merge.{new_event}
 use Rattle.fleet_model.proofs.Orders as orders
 
 -- an acquire and a release that conflict
@@ -50,10 +51,6 @@ module _ (m : Fleet) (r : ℕ) (route : List CellNo) (is_site : IsSite m.site) (
 
   abbrev plan : List Event
   plan = m.plan ++ news
-
-  -- an event with a high number is of the route
-  is_new : (e : Event) → In e plan → m.next ≤ e.no.0 → In e news
-  is_new e i l = elim (In-append_cases m.plan news i) [ inl j ↦ (let h = good.next e j in absurd (omega arith)) | inr j ↦ j ]
 
   -- what a new event waits for is of the plan before
   is_old : (e f : Event) → In e news → In f plan → f.robot.0 ≢ e.robot.0 → In f m.plan
@@ -87,7 +84,7 @@ module _ (m : Fleet) (r : ℕ) (route : List CellNo) (is_site : IsSite m.site) (
 
             by_number : (f : Event) → In f plan → is_awaited m.site.groups e f ≡ true → (e.no.0 < m.next) ⊎ (m.next ≤ e.no.0) → is_done (m.finished ++ before) f ≡ true
             by_number f i a (inl l) = ready.waited f i (inr (inl (l, a)))
-            by_number f i a (inr l) = new_waited f i a (is_new e ready.planned l) (cases_Bool (is_done (m.finished ++ before) f))
+            by_number f i a (inr l) = new_waited f i a (new_event m r route good e ready.planned l) (cases_Bool (is_done (m.finished ++ before) f))
 
             waited : (f : Event) → In f plan → IsBehind m.site.groups e f → is_done (m.finished ++ before) f ≡ true
             waited f i (inl o) = ready.waited f i (inl o)
@@ -156,7 +153,7 @@ module _ (m : Fleet) (r : ℕ) (route : List CellNo) (is_site : IsSite m.site) (
 
           by_number : (f : Event) → In f plan → is_awaited m.site.groups e f ≡ true → (e.no.0 < m.next) ⊎ (m.next ≤ e.no.0) → is_done (m.finished ++ before) f ≡ true
           by_number f i a (inl l) = ready.waited f i (inr (inl (l, a)))
-          by_number f i a (inr l) = let n = is_new e ready.planned l in paired f i a n (is_old e f n i (awaited_parts m.site.groups e f a).0) (cases_Bool (is_done m.finished f))
+          by_number f i a (inr l) = let n = new_event m r route good e ready.planned l in paired f i a n (is_old e f n i (awaited_parts m.site.groups e f a).0) (cases_Bool (is_done m.finished f))
 
           waited : (f : Event) → In f plan → IsBehind m.site.groups e f → is_done (m.finished ++ before) f ≡ true
           waited f i (inl o) = ready.waited f i (inl o)
