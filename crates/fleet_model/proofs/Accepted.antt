@@ -37,6 +37,8 @@ use Rattle.fleet_model.proofs.Pending.{emptied_le, emptied_less, filled_le}
 use Rattle.fleet_model.proofs.Filters.{filter_less, filter_misses, filter_swap, length-filter-le}
 use Rattle.fleet_model.proofs.Numbered.{length-numbered}
 use Rattle.fleet_model.proofs.Changes.{HasStart, IsClear, Tells, Accepts, Grew, Kept, Dropped, Cut, Did}
+use Rattle.fleet_base.specs.declared.answers.ReplanRefused.{ReplanRefused}
+use Rattle.fleet_base.specs.declared.numbers.Span.{Span}
 use Rattle.fleet_base.specs.declared.answers.CancelRefused.TheVariants as cancel_refused
 use Rattle.fleet_base.specs.declared.answers.ProposeRefused.TheVariants as propose_refused
 use Rattle.fleet_base.specs.declared.answers.ReplanRefused.TheVariants as replan_refused
@@ -74,6 +76,14 @@ start_of [] r h = absurd (omega arith)
 start_of (a ∷ rest) zero h = (a, refl)
 start_of (a ∷ rest) (suc r) h = start_of rest r (omega arith)
 
+-- where the refusal of an unknown robot doesn't fit, the robot has a start
+robot_start : {E : Type 0} (s : State) (r : ℕ) (e : E) → when (not (is_robot s r)) e ≡ None → HasStart s.fleet r
+robot_start s r e h = start_of s.fleet.starts r (ltb-true r (length s.fleet.starts) (not-false (is_robot s r) (when_none (not (is_robot s r)) e h)))
+
+-- where the refusal for want of a pending route doesn't fit, one is pending
+pending_there : {E : Type 0} (s : State) (r : ℕ) (e : E) → when (is_none (pending_of s r)) e ≡ None → (old : List CellNo) × (pending_of s r ≡ Some old)
+pending_there s r e h = not_none (pending_of s r) (when_none (is_none (pending_of s r)) e h)
+
 linked_walk : (site : Site) (at : ℕ) (a : CellNo) (bs : List CellNo) → first_unlinked site at a bs ≡ None → IsWalkFrom site a bs
 linked_walk site at a [] h = tt
 linked_walk site at a (b ∷ bs) h =
@@ -90,14 +100,14 @@ begins_there a (b ∷ bs) h = ap (λ c. Some c) (sym (same_cell a b (eqb-true a.
 
 -- what holds where no refusal of a proposal fits
 record IsProposal (s : State) (r : ℕ) (cells : List CellNo) (block : Option Block) : Type 0 where
-  known : is_robot s r ≡ true
+  start : HasStart s.fleet r
   none : pending_of s r ≡ None
   route : IsRoute s.fleet r cells
   room : is_full s (propose_growth s cells block) ≡ false
 
 proposal : (s : State) (r : ℕ) (cells : List CellNo) (block : Option Block) → AllNone (propose_refusals s r cells block) → IsProposal s r cells block
 proposal s r cells block none = record {
-  known = not-false (is_robot s r) (when_none (not (is_robot s r)) propose_refused.UnknownRobot none.0);
+  start = robot_start s r propose_refused.UnknownRobot none.0;
   none = none_of (pending_of s r) (when_none (is_some (pending_of s r)) propose_refused.HasPending none.1.0);
   route = record {
     long = ltb-false (length cells) 2 (when_none (nat_lt (length cells) 2) propose_refused.Short none.1.1.0);
@@ -153,15 +163,12 @@ accepts_propose s r cells entry h = go (block_of (deferring s r cells) r cells) 
     facts : IsProposal s r cells blocked
     facts = proposal s r cells blocked is.none
 
-    start : HasStart s.fleet r
-    start = start_of s.fleet.starts r (ltb-true r (length s.fleet.starts) facts.known)
-
     go : (o : Option Block) → blocked ≡ o → Accepts s r entry (propose s r cells).after
     go None e =
         let t = told r (Merged cells (first_of s)) entry (subst (λ o. (propose_outcome s r cells o).entry ≡ Some entry) e is.told) in
         record {
           change = Grew cells;
-          can = (start, facts.route, none_unblocked s.fleet r cells (map_none _ (least_blocker s.fleet.site (ends s.fleet) r (needs s.fleet.site cells)) e));
+          can = (facts.start, facts.route, none_unblocked s.fleet r cells (map_none _ (least_blocker s.fleet.site (ends s.fleet) r (needs s.fleet.site cells)) e));
           room = (
               let free = ltb-false s.cap (s.count + owed s + (1 + length (steps s.fleet.site cells))) (subst (λ o. is_full s (propose_growth s cells o) ≡ false) e facts.room) in
               let some = unfinished-merged s.fleet r cells in
@@ -198,7 +205,7 @@ joined_room s r route old pends free =
 pub accepts_retry : (s : State) (r : ℕ) (entry : Entry) → IsGood s → (retry s r).entry ≡ Some entry → Accepts s r entry (retry s r).after
 accepts_retry s r entry good h = record {
   change = Grew route;
-  can = (start_of s.fleet.starts r (ltb-true r (length s.fleet.starts) (not-false (is_robot s r) (when_none (not (is_robot s r)) retry_refused.UnknownRobot is.none.0))), subst (λ x. IsRoute s.fleet r x) (sym (pending_is s r pends.0 pends.1)) (good.routes r pends.0 pends.1), clear);
+  can = (robot_start s r retry_refused.UnknownRobot is.none.0, subst (λ x. IsRoute s.fleet r x) (sym (pending_is s r pends.0 pends.1)) (good.routes r pends.0 pends.1), clear);
   room = joined_room s r route pends.0 pends.1 (when_none (is_full s (length (steps s.fleet.site route))) retry_refused.Full is.none.1.1.1.0);
   after_is = ap (λ x. x.after) is.is;
   robot = t.0;
@@ -212,7 +219,7 @@ accepts_retry s r entry good h = record {
     is = unless_accepted (retry_refusals s r route) s (accepted (span_of s route) r (Retried (first_of s)) (with_route s r route)) entry h
 
     pends : (old : List CellNo) × (pending_of s r ≡ Some old)
-    pends = not_none (pending_of s r) (when_none (is_none (pending_of s r)) retry_refused.NoPending is.none.1.0)
+    pends = pending_there s r retry_refused.NoPending is.none.1.0
 
     clear : IsClear s.fleet r route
     clear = none_unblocked s.fleet r route (map_none _ (least_blocker s.fleet.site (ends s.fleet) r (needs s.fleet.site route)) (map_none (λ block. retry_refused.StillDeferred block) (block_of s r route) is.none.1.1.0))
@@ -227,7 +234,7 @@ nothing = tt
 pub accepts_cancel : (s : State) (r : ℕ) (entry : Entry) → IsGood s → (cancel s r).entry ≡ Some entry → Accepts s r entry (cancel s r).after
 accepts_cancel s r entry good h =
     let is = unless_accepted (cancel_refusals s r) s (accepted nothing r Canceled (moved s s.fleet r None)) entry h in
-    let pends = not_none (pending_of s r) (when_none (is_none (pending_of s r)) cancel_refused.NoPending is.none.1.0) in
+    let pends = pending_there s r cancel_refused.NoPending is.none.1.0 in
     let t = told r Canceled entry is.told in
     record {
       change = Dropped;
@@ -238,38 +245,48 @@ accepts_cancel s r entry good h =
       tells = subst (λ a. Tells s r Dropped a) (sym t.1) tt;
     }
 
+-- what holds where a replan was accepted: it found this detour, and no refusal fits
+pub record IsReplanned (s : State) (r : ℕ) (goal : CellNo → Bool) (entry : Entry) : Type 0 where
+  pub route : List CellNo
+  pub found : detour_of s.fleet r goal ≡ Some route
+  pub none : AllNone (replan_refusals s r goal (Some route))
+  pub robot : entry.robot.0 ≡ r
+  pub act : entry.act ≡ Replanned route (first_of s)
+  pub is : replan s r goal ≡ accepted (span_of s route) r (Replanned route (first_of s)) (with_route s r route)
+
+-- an accepted replan found a detour
+pub replanned : (s : State) (r : ℕ) (goal : CellNo → Bool) (entry : Entry) → (replan s r goal).entry ≡ Some entry → IsReplanned s r goal entry
+replanned s r goal entry h = go (detour_of s.fleet r goal) refl
+  where
+    done : List CellNo → Step Span ReplanRefused
+    done route = accepted (span_of s route) r (Replanned route (first_of s)) (with_route s r route)
+
+    go : (o : Option (List CellNo)) → detour_of s.fleet r goal ≡ o → IsReplanned s r goal entry
+    go o e = at o e (unless_accepted (replan_refusals s r goal o) s (done (unwrap_or o [])) entry (subst (λ x. (unless (replan_refusals s r goal x) s (done (unwrap_or x []))).entry ≡ Some entry) e h))
+      where
+        at : (o : Option (List CellNo)) → detour_of s.fleet r goal ≡ o → IsAccepted (replan_refusals s r goal o) s (done (unwrap_or o [])) entry → IsReplanned s r goal entry
+        at None e is = absurd (let n = is.none.1.1.1.0 in cc)
+        at (Some route) e is =
+            let t = told r (Replanned route (first_of s)) entry is.told in
+            record { route = route; found = e; none = is.none; robot = t.0; act = t.1; is = ap (λ x. unless (replan_refusals s r goal x) s (done (unwrap_or x []))) e ∙ is.is }
+
 -- an accepted replan
 pub accepts_replan : (s : State) (r : ℕ) (goal : CellNo → Bool) (entry : Entry) → IsSite s.fleet.site → (replan s r goal).entry ≡ Some entry → Accepts s r entry (replan s r goal).after
-accepts_replan s r goal entry is_site h = record {
-  change = Grew route;
-  can = (
-    start_of s.fleet.starts r (ltb-true r (length s.fleet.starts) (not-false (is_robot s r) (when_none (not (is_robot s r)) replan_refused.UnknownRobot is.none.0))),
-    subst (λ x. IsRoute s.fleet r x) (sym route_is) (detour_route s.fleet r goal found.0 is_site (when_none (goal (end_of s.fleet r)) replan_refused.AtGoal is.none.1.1.0) found.1),
-    subst (λ x. IsClear s.fleet r x) (sym route_is) (detour_free s.fleet r goal is_site found.0 found.1),
-  );
-  room = joined_room s r route pends.0 pends.1 (when_none (is_full s (length (steps s.fleet.site route))) replan_refused.Full is.none.1.1.1.1.0);
-  after_is = ap (λ x. x.after) is.is;
-  robot = t.0;
-  tells = subst (λ a. Tells s r (Grew route) a) (sym t.1) (refl, pends);
-}
-  where
-    route : List CellNo
-    route = unwrap_or (detour_of s.fleet r goal) []
-
-    is : IsAccepted (replan_refusals s r goal (detour_of s.fleet r goal)) s (accepted (span_of s route) r (Replanned route (first_of s)) (with_route s r route)) entry
-    is = unless_accepted (replan_refusals s r goal (detour_of s.fleet r goal)) s (accepted (span_of s route) r (Replanned route (first_of s)) (with_route s r route)) entry h
-
-    pends : (old : List CellNo) × (pending_of s r ≡ Some old)
-    pends = not_none (pending_of s r) (when_none (is_none (pending_of s r)) replan_refused.NoPending is.none.1.0)
-
-    found : (detour : List CellNo) × (detour_of s.fleet r goal ≡ Some detour)
-    found = not_none (detour_of s.fleet r goal) (when_none (is_none (detour_of s.fleet r goal)) replan_refused.NoDetour is.none.1.1.1.0)
-
-    route_is : route ≡ found.0
-    route_is = ap (λ o. unwrap_or o []) found.1
-
-    t : (entry.robot.0 ≡ r) × (entry.act ≡ Replanned route (first_of s))
-    t = told r (Replanned route (first_of s)) entry is.told
+accepts_replan s r goal entry is_site h =
+    let p = replanned s r goal entry h in
+    let pends = pending_there s r replan_refused.NoPending p.none.1.0 in
+    record {
+      change = Grew p.route;
+      can = (
+        robot_start s r replan_refused.UnknownRobot p.none.0,
+        detour_route s.fleet r goal p.route is_site (when_none (goal (end_of s.fleet r)) replan_refused.AtGoal p.none.1.1.0) p.found,
+        detour_free s.fleet r goal is_site p.route p.found,
+      );
+      room = joined_room s r p.route pends.0 pends.1 (when_none (is_full s (length (steps s.fleet.site p.route))) replan_refused.Full p.none.1.1.1.1.0);
+      after_is = ap (λ x. x.after) p.is;
+      robot = p.robot;
+      tells = subst (λ a. Tells s r (Grew p.route) a) (sym p.act) (refl, pends);
+    }
 
 -- an accepted withdrawal
 pub accepts_withdraw : (s : State) (r : ℕ) (entry : Entry) → IsGood s → (withdraw s r).entry ≡ Some entry → Accepts s r entry (withdraw s r).after

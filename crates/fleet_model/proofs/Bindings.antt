@@ -21,7 +21,7 @@ use Rattle.fleet_model.proofs.Rotations.{cycle_closed, cycle_stands}
 use Rattle.fleet_model.proofs.Ends.{merged_end}
 use Rattle.fleet_model.proofs.GoodStates.{accepts_at, turn_good}
 use Rattle.fleet_model.proofs.Withdraw.{withdrawn_end}
-use Rattle.fleet_model.proofs.Changes.{Change, Grew, Kept, Dropped, Cut, Did, changed, CanChange, IsClear, Tells, same_site}
+use Rattle.fleet_model.proofs.Changes.{Change, Grew, Kept, Dropped, Cut, Did, changed, CanChange, IsClear, Tells, changed_site, changed_starts}
 use Rattle.fleet_model.proofs.Pending.{other_place, now_none}
 
 -- a deferral is there as long as the pending route of the one and the end of the other stay
@@ -45,9 +45,6 @@ deferred_still s n r q site starts p e h = record {
 abbrev pub IsClosed : State → List ℕ → Type 0
 IsClosed s members = (r : ℕ) → In r members → (q : ℕ) × In q members × IsDeferredOn s r q
 
-abbrev KeepsTo : List ℕ → ℕ → Act → Type 0
-KeepsTo members t act = In t members → IsChange act → ⊥
-
 -- a deferral between two robots, neither of which is the one that acts, is there before the change as after it
 kept_apart : (s : State) → IsGoodPlan s.fleet → (t : ℕ) (c : Change) (r q : ℕ) → (t ≡ r → ⊥) → (t ≡ q → ⊥) → (pending_of (changed s t c) r ≡ pending_of s r) × (end_of (changed s t c).fleet q ≡ end_of s.fleet q)
 kept_apart s good t (Grew route) r q apart free = (other_place s.pending t r None apart, merged_end s.fleet t route q free)
@@ -60,15 +57,13 @@ kept_apart s good t (Did e) r q apart free = (refl, refl)
 apart_still : (s : State) → IsGoodPlan s.fleet → (members : List ℕ) (t : ℕ) (c : Change) → (In t members → ⊥) → (r q : ℕ) → In r members → In q members → IsDeferredOn s r q → IsDeferredOn (changed s t c) r q
 apart_still s good members t c out r q i j d =
     let k = kept_apart s good t c r q (λ e. out (subst (λ x. In x members) (sym e) i)) (λ e. out (subst (λ x. In x members) (sym e) j)) in
-    let w = same_site s t c in
-    deferred_still s (changed s t c) r q w.0 w.1 k.0 k.1 d
+    deferred_still s (changed s t c) r q (sym (changed_site s t c)) (sym (changed_starts s t c)) k.0 k.1 d
 
 -- and was there before it
 apart_stood : (s : State) → IsGoodPlan s.fleet → (members : List ℕ) (t : ℕ) (c : Change) → (In t members → ⊥) → (r q : ℕ) → In r members → In q members → IsDeferredOn (changed s t c) r q → IsDeferredOn s r q
 apart_stood s good members t c out r q i j d =
     let k = kept_apart s good t c r q (λ e. out (subst (λ x. In x members) (sym e) i)) (λ e. out (subst (λ x. In x members) (sym e) j)) in
-    let w = same_site s t c in
-    deferred_still (changed s t c) s r q (sym w.0) (sym w.1) (sym k.0) (sym k.1) d
+    deferred_still (changed s t c) s r q (changed_site s t c) (changed_starts s t c) (sym k.0) (sym k.1) d
 
 -- the change is the report of an event
 abbrev IsReport : Change → Type 0

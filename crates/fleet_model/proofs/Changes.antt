@@ -61,9 +61,30 @@ pub record Accepts (s : State) (r : ℕ) (entry : Entry) (after : State) : Type 
   pub robot : entry.robot.0 ≡ r
   pub tells : Tells s r change entry.act
 
-pub same_site : (s : State) (t : ℕ) (c : Change) → (s.fleet.site ≡ (changed s t c).fleet.site) × (s.fleet.starts ≡ (changed s t c).fleet.starts)
-same_site s t (Grew route) = (refl, refl)
-same_site s t (Kept route) = (refl, refl)
-same_site s t Dropped = (refl, refl)
-same_site s t Cut = (refl, refl)
-same_site s t (Did e) = (refl, refl)
+pub changed_count : (s : State) (r : ℕ) (c : Change) → (changed s r c).count ≡ s.count + 1
+changed_count s r (Grew route) = refl
+changed_count s r (Kept route) = refl
+changed_count s r Dropped = refl
+changed_count s r Cut = refl
+changed_count s r (Did e) = refl
+
+pub changed_cap : (s : State) (r : ℕ) (c : Change) → (changed s r c).cap ≡ s.cap
+changed_cap s r (Grew route) = refl
+changed_cap s r (Kept route) = refl
+changed_cap s r Dropped = refl
+changed_cap s r Cut = refl
+changed_cap s r (Did e) = refl
+
+pub changed_site : (s : State) (r : ℕ) (c : Change) → (changed s r c).fleet.site ≡ s.fleet.site
+changed_site s r (Grew route) = refl
+changed_site s r (Kept route) = refl
+changed_site s r Dropped = refl
+changed_site s r Cut = refl
+changed_site s r (Did e) = refl
+
+pub changed_starts : (s : State) (r : ℕ) (c : Change) → (changed s r c).fleet.starts ≡ s.fleet.starts
+changed_starts s r (Grew route) = refl
+changed_starts s r (Kept route) = refl
+changed_starts s r Dropped = refl
+changed_starts s r Cut = refl
+changed_starts s r (Did e) = refl

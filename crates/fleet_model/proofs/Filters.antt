@@ -4,9 +4,12 @@ use Rattle.std.proofs.lemmas.Bool.{both_ways}
 use Rattle.std.specs.List.{filter}
 use Rattle.fleet_model.specs.Lists.{In, here, there}
 use Rattle.std.proofs.lemmas.List.Sums.{length-filter, count_by-le-length}
-use Rattle.fleet_base.specs.declared.numbers.Event.{Event}
 
 module _ {A : Type 0} where
+  -- a filter keeps no more elements than there are
+  pub length-filter-le : (p : A → Bool) (xs : List A) → length (filter p xs) ≤ length xs
+  length-filter-le p xs = omega (arith, length-filter p xs, count_by-le-length p xs)
+
   pub filter_in : (p : A → Bool) (x : A) (xs : List A) → p x ≡ true → filter p (x ∷ xs) ≡ x ∷ filter p xs
   filter_in p x xs h = rw h refl
 
@@ -42,32 +45,23 @@ module _ {A : Type 0} where
   -- a filter that doesn't pass some element is shorter
   pub filter_misses : (p : A → Bool) (xs : List A) (z : A) → In z xs → p z ≡ false → length (filter p xs) + 1 ≤ length xs
   filter_misses p [] z m n = elim m [ ]
-  filter_misses p (x ∷ xs) z (here e) n = rw (ap p (sym e) ∙ n) (let k = length-filter p xs in let j = count_by-le-length p xs in omega arith)
+  filter_misses p (x ∷ xs) z (here e) n = rw (ap p (sym e) ∙ n) (let k = length-filter-le p xs in omega arith)
   filter_misses p (x ∷ xs) z (there m) n = filter_misses_step p x xs (p x) (filter_misses p xs z m n)
 
--- a filter keeps no more elements than there are
-pub length-filter-le : {A : Type 0} (p : A → Bool) (xs : List A) → length (filter p xs) ≤ length xs
-length-filter-le p [] = omega arith
-length-filter-le p (x ∷ xs) = go (p x) (length-filter-le p xs)
-  where
-    go : (b : Bool) → length (filter p xs) ≤ length xs → length (cond b (x ∷ filter p xs) (filter p xs)) ≤ length (x ∷ xs)
-    go true l = omega arith
-    go false l = omega arith
+  pub filter_all : (p : A → Bool) (es : List A) → ((e : A) → In e es → p e ≡ true) → filter p es ≡ es
+  filter_all p [] h = refl
+  filter_all p (e ∷ es) h = filter_in p e es (h e (here refl)) ∙ ap (λ zs. e ∷ zs) (filter_all p es (λ x i. h x (there i)))
 
-pub filter_all : (p : Event → Bool) (es : List Event) → ((e : Event) → In e es → p e ≡ true) → filter p es ≡ es
-filter_all p [] h = refl
-filter_all p (e ∷ es) h = filter_in p e es (h e (here refl)) ∙ ap (λ zs. e ∷ zs) (filter_all p es (λ x i. h x (there i)))
+  pub filter_none : (p : A → Bool) (es : List A) → ((e : A) → In e es → p e ≡ false) → filter p es ≡ []
+  filter_none p [] h = refl
+  filter_none p (e ∷ es) h = filter_out p e es (h e (here refl)) ∙ filter_none p es (λ x i. h x (there i))
 
-pub filter_none : (p : Event → Bool) (es : List Event) → ((e : Event) → In e es → p e ≡ false) → filter p es ≡ []
-filter_none p [] h = refl
-filter_none p (e ∷ es) h = filter_out p e es (h e (here refl)) ∙ filter_none p es (λ x i. h x (there i))
+  filter_swap_step : (p q : A → Bool) (x : A) (ps qs : List A) (a b : Bool) → p x ≡ a → q x ≡ b → filter p qs ≡ filter q ps → filter p (cond b (x ∷ qs) qs) ≡ filter q (cond a (x ∷ ps) ps)
+  filter_swap_step p q x ps qs true true h g ih = rw (h, g) (ap (λ zs. x ∷ zs) ih)
+  filter_swap_step p q x ps qs true false h g ih = rw g ih
+  filter_swap_step p q x ps qs false true h g ih = rw h ih
+  filter_swap_step p q x ps qs false false h g ih = ih
 
-filter_swap_step : (p q : Event → Bool) (x : Event) (ps qs : List Event) (a b : Bool) → p x ≡ a → q x ≡ b → filter p qs ≡ filter q ps → filter p (cond b (x ∷ qs) qs) ≡ filter q (cond a (x ∷ ps) ps)
-filter_swap_step p q x ps qs true true h g ih = rw (h, g) (ap (λ zs. x ∷ zs) ih)
-filter_swap_step p q x ps qs true false h g ih = rw g ih
-filter_swap_step p q x ps qs false true h g ih = rw h ih
-filter_swap_step p q x ps qs false false h g ih = ih
-
-pub filter_swap : (p q : Event → Bool) (xs : List Event) → filter p (filter q xs) ≡ filter q (filter p xs)
-filter_swap p q [] = refl
-filter_swap p q (x ∷ xs) = filter_swap_step p q x (filter p xs) (filter q xs) (p x) (q x) refl refl (filter_swap p q xs)
+  pub filter_swap : (p q : A → Bool) (xs : List A) → filter p (filter q xs) ≡ filter q (filter p xs)
+  filter_swap p q [] = refl
+  filter_swap p q (x ∷ xs) = filter_swap_step p q x (filter p xs) (filter q xs) (p x) (q x) refl refl (filter_swap p q xs)

@@ -18,7 +18,7 @@ use Rattle.fleet_model.proofs.GoodMerge.{merge_good}
 use Rattle.fleet_model.proofs.Accepted.{accepts}
 use Rattle.fleet_model.proofs.StepCounts.{steps_few}
 use Rattle.fleet_model.proofs.Withdraw.{withdrawn_good, withdrawn_end}
-use Rattle.fleet_model.proofs.Changes.{Change, Grew, Kept, Dropped, Cut, Did, changed, CanChange, Accepts}
+use Rattle.fleet_model.proofs.Changes.{Change, Grew, Kept, Dropped, Cut, Did, changed, CanChange, Accepts, changed_count, changed_cap, changed_site}
 use Rattle.fleet_model.proofs.Pending.{pending_cases}
 use Rattle.fleet_model.proofs.Orders as orders
 
@@ -71,27 +71,6 @@ changed_numbers s is_site good r (Kept route) can = let old = good.numbers in om
 changed_numbers s is_site good r Dropped can = let old = good.numbers in omega arith
 changed_numbers s is_site good r Cut can = let old = good.numbers in omega arith
 changed_numbers s is_site good r (Did e) can = let old = good.numbers in omega arith
-
-pub changed_count : (s : State) (r : ℕ) (c : Change) → (changed s r c).count ≡ s.count + 1
-changed_count s r (Grew route) = refl
-changed_count s r (Kept route) = refl
-changed_count s r Dropped = refl
-changed_count s r Cut = refl
-changed_count s r (Did e) = refl
-
-pub changed_cap : (s : State) (r : ℕ) (c : Change) → (changed s r c).cap ≡ s.cap
-changed_cap s r (Grew route) = refl
-changed_cap s r (Kept route) = refl
-changed_cap s r Dropped = refl
-changed_cap s r Cut = refl
-changed_cap s r (Did e) = refl
-
-pub changed_site : (s : State) (r : ℕ) (c : Change) → (changed s r c).fleet.site ≡ s.fleet.site
-changed_site s r (Grew route) = refl
-changed_site s r (Kept route) = refl
-changed_site s r Dropped = refl
-changed_site s r Cut = refl
-changed_site s r (Did e) = refl
 
 -- a change that can be made and has room keeps a state good
 pub changed_good : (s : State) → IsSite s.fleet.site → IsGood s → (r : ℕ) (c : Change) → CanChange s r c → s.count + 1 + owed (changed s r c) ≤ s.cap → IsGood (changed s r c)

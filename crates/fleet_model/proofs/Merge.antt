@@ -29,10 +29,6 @@ module _ (m : Fleet) (r : ℕ) (route : List CellNo) where
   pub news_high : (e : Event) → In e (route_events m r route) → m.next ≤ e.no.0
   news_high e i = low_bound m.next (route_events m r route) (numbered-ascending m.next r (steps m.site route)) i
 
-  -- an event of the merged plan with a low number is of the plan before
-  pub old_event : (e : Event) → In e (m.plan ++ route_events m r route) → e.no.0 < m.next → In e m.plan
-  old_event e i l = elim (In-append_cases m.plan (route_events m r route) i) [ inl j ↦ j | inr j ↦ (let h = news_high e j in absurd (omega arith)) ]
-
   -- an event of the merged plan with a high number is of the route
   pub new_event : IsGoodPlan m → (e : Event) → In e (m.plan ++ route_events m r route) → m.next ≤ e.no.0 → In e (route_events m r route)
   new_event good e i l = elim (In-append_cases m.plan (route_events m r route) i) [ inl j ↦ (let h = good.next e j in absurd (omega arith)) | inr j ↦ j ]

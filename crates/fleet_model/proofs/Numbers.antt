@@ -1,6 +1,6 @@
 -- Events in order of number, and which of them are done.
-use Rattle.std.proofs.Common.{◌≡◌, ◌≢◌, ℕ, ◌+◌, ◌<◌, ◌≤◌, Bool, true, false, cond, ◌==◌, ◌||◌, ◌⊎◌, inl, inr, refl, sym, ap, ◌∙◌, List, [], ◌∷◌, ◌++◌, arith, eq-eqb, map}
-use Rattle.std.proofs.lemmas.Bool.{eqb-true, ne_eqb, or_cases, or_parts, or_from, or_left, or_right, both_ways, false_from_ne_true}
+use Rattle.std.proofs.Common.{◌≡◌, ◌≢◌, ℕ, ◌+◌, ◌<◌, ◌≤◌, Bool, true, false, cond, ◌==◌, ◌||◌, ◌⊎◌, refl, sym, ap, ◌∙◌, List, [], ◌∷◌, ◌++◌, arith, eq-eqb, map}
+use Rattle.std.proofs.lemmas.Bool.{eqb-true, ne_eqb, or_cases, or_parts, or_from, or_left, or_right, false_from_ne_true}
 use Rattle.std.proofs.lemmas.List.{append-nil, map-append}
 use Rattle.std.proofs.lemmas.List.Elements.{filter-append}
 use Rattle.std.specs.List.{filter, list_any}
@@ -10,21 +10,15 @@ use Rattle.fleet_model.specs.Plans.{Fleet, is_done, own, kinds}
 use Rattle.fleet_model.specs.Good.{IsAscending, IsGoodPlan}
 use Rattle.fleet_model.proofs.Lists.{In-append_right, In-filter, In_unfilter}
 use Rattle.fleet_model.proofs.Filters.{filter_in, filter_out}
+use Rattle.fleet_model.proofs.Tests.{any_In, In_any}
 
 -- an event of the list is done by it
 pub done_in : {e : Event} (done : List Event) → In e done → is_done done e ≡ true
-done_in [] m = elim m [ ]
-done_in {e} (f ∷ fs) (here h) = or_left (f.no.0 == e.no.0) (is_done fs e) (eq-eqb f.no.0 e.no.0 (ap (λ (x : Event). x.no.0) (sym h)))
-done_in {e} (f ∷ fs) (there m) = or_right (f.no.0 == e.no.0) (is_done fs e) (done_in fs m)
+done_in {e} done m = In_any (λ (f : Event). f.no.0 == e.no.0) done m (eq-eqb e.no.0 e.no.0 refl)
 
 -- what is done has its number in the list
 pub done_event : (e : Event) (done : List Event) → is_done done e ≡ true → (f : Event) × In f done × (f.no.0 ≡ e.no.0)
-done_event e [] h = absurd (both_ways false refl h)
-done_event e (f ∷ fs) h = go (or_cases (f.no.0 == e.no.0) (is_done fs e) h) (done_event e fs)
-  where
-    go : ((f.no.0 == e.no.0) ≡ true) ⊎ (is_done fs e ≡ true) → (is_done fs e ≡ true → (g : Event) × In g fs × (g.no.0 ≡ e.no.0)) → (g : Event) × In g (f ∷ fs) × (g.no.0 ≡ e.no.0)
-    go (inl t) ih = (f, here refl, eqb-true f.no.0 e.no.0 t)
-    go (inr t) ih = let r = ih t in (r.0, there r.1, r.2)
+done_event e done h = let f = any_In (λ (f : Event). f.no.0 == e.no.0) done h in (f.0, f.1, eqb-true f.0.no.0 e.no.0 f.2)
 
 pub is_done-append : (xs ys : List Event) (e : Event) → is_done (xs ++ ys) e ≡ (is_done xs e || is_done ys e)
 is_done-append [] ys e = refl

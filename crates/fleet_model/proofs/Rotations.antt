@@ -76,9 +76,9 @@ least_is_cycle edge r [] h n = absurd (n refl)
 least_is_cycle edge r (x ∷ xs) h n = h.0
 
 -- the least cycle is empty exactly where there is no cycle
-pub least_some : (edge : ℕ → ℕ → Bool) (r : ℕ) (xs : List ℕ) → IsLeastCycle edge r xs → (xs ≢ []) ↔ ((others : List ℕ) × (is_cycle edge r (r ∷ others) ≡ true))
-least_some edge r [] h = (λ n. absurd (n refl), λ c. absurd (both_ways (is_cycle edge r (r ∷ c.0)) (h (r ∷ c.0)) c.1))
-least_some edge r (x ∷ xs) h = (λ n. let p = cycle_parts edge r (x ∷ xs) h.0 in (p.others, subst (λ ys. is_cycle edge r ys ≡ true) p.begins h.0), λ c n. absurd (cc))
+pub least_cycle_some : (edge : ℕ → ℕ → Bool) (r : ℕ) (xs : List ℕ) → IsLeastCycle edge r xs → (xs ≢ []) ↔ ((others : List ℕ) × (is_cycle edge r (r ∷ others) ≡ true))
+least_cycle_some edge r [] h = (λ n. absurd (n refl), λ c. absurd (both_ways (is_cycle edge r (r ∷ c.0)) (h (r ∷ c.0)) c.1))
+least_cycle_some edge r (x ∷ xs) h = (λ n. let p = cycle_parts edge r (x ∷ xs) h.0 in (p.others, subst (λ ys. is_cycle edge r ys ≡ true) p.begins h.0), λ c n. absurd (cc))
 
 -- each member of a cycle of deferrals is deferred on a member
 pub cycle_closed : (s : State) (members : List ℕ) → IsCycle s members → (x : ℕ) → In x members → (y : ℕ) × In y members × IsDeferredOn s x y
@@ -97,4 +97,4 @@ deferrals_turn s (z ∷ zs) r h m = let t = cycle_turns (is_deferred_on s) z (z 
 
 -- the cycle of a state is empty exactly where there is no cycle through the robot
 pub cycle_of_some : (s : State) (r : ℕ) → length s.pending ≡ length s.fleet.starts → (cycle_of s r ≢ []) ↔ ((others : List ℕ) × IsCycle s (r ∷ others))
-cycle_of_some s r e = least_some (is_deferred_on s) r (cycle_of s r) (cycle_of_least s r e)
+cycle_of_some s r e = least_cycle_some (is_deferred_on s) r (cycle_of s r) (cycle_of_least s r e)

@@ -30,6 +30,7 @@ use Rattle.fleet_model.proofs.Deferrals.{cycle_of_least}
 use Rattle.fleet_model.proofs.GoodStates.{accepts_at, turn_good, journal_good}
 use Rattle.fleet_model.proofs.Bindings.{cycle_binds, cycle_stood}
 use Rattle.fleet_model.proofs.Changes.{Change, Grew, Kept, Dropped, Cut, Did, changed, CanChange, Accepts, Tells}
+use Rattle.fleet_base.specs.RobotLists.{numbers_of-robots_of}
 
 pub sound_state : (s : State) → IsSite s.fleet.site → IsGood s → IsSoundState s
 sound_state s is_site good = record {
@@ -64,10 +65,6 @@ deferred_kept s r (Kept route) cells cycle can t = record {
   names = t.1 ∙ ap (λ x. robots_of (cycle_of (deferring s r x) r)) t.0;
 }
 deferred_kept s r c cells cycle can t = absurd t
-
-numbers_of-robots_of : (numbers : List ℕ) → numbers_of (robots_of numbers) ≡ numbers
-numbers_of-robots_of [] = refl
-numbers_of-robots_of (n ∷ ns) = ap (λ xs. n ∷ xs) (numbers_of-robots_of ns)
 
 some_robots : (numbers : List ℕ) → robots_of numbers ≢ [] → numbers ≢ []
 some_robots numbers n e = n (ap robots_of e)

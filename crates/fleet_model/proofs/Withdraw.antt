@@ -54,7 +54,7 @@ module _ (m : Fleet) (r : ℕ) (tail : List Event) (good : IsGoodPlan m) (remova
   -- of the robot's own events those in front of the tail are left
   pub own_left : own r after.plan ≡ removable.front
   own_left =
-      filter_swap (λ e. e.robot.0 == r) stays m.plan
+      filter_swap (λ (e : Event). e.robot.0 == r) stays m.plan
       ∙ (ap (λ es. filter stays es) removable.splits
       ∙ (filter-append stays removable.front tail
       ∙ (ap (λ es. es ++ filter stays tail) (filter_all stays removable.front (λ e i. not_from_false (is_done tail e) (done_none tail e (λ g j n. let l = ascending_apart 1 removable.front tail rises i j in absurd (omega arith)))))
@@ -65,7 +65,7 @@ module _ (m : Fleet) (r : ℕ) (tail : List Event) (good : IsGoodPlan m) (remova
 
   own_still : (q : ℕ) → (r ≡ q → ⊥) → own q after.plan ≡ own q m.plan
   own_still q apart =
-      filter_swap (λ e. e.robot.0 == q) stays m.plan
+      filter_swap (λ (e : Event). e.robot.0 == q) stays m.plan
       ∙ filter_all stays (own q m.plan) (λ e i. let o = own_In q m.plan i in other_stays e o.0 (λ h. apart (sym h ∙ o.1)) (cases_Bool (stays e)))
 
   -- an order of finished events stays one
