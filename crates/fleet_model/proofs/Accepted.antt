@@ -1,4 +1,4 @@
--- What is known of an accepted call: what it did to the state, and what its entry tells.
+-- An accepted call makes a change that can be made, has room, and its entry tells of it.
 use Rattle.std.proofs.Common.{zero, suc, ◌≡◌, ℕ, ◌+◌, ◌<◌, ◌≤◌, Bool, true, false, not, ◌==◌, ◌⊎◌, inl, inr, refl, sym, ap, ◌∙◌, subst, List, [], ◌∷◌, ◌++◌, length, arith, Option, Some, None}
 use Rattle.std.proofs.lemmas.Bool.{both_ways, cases_Bool, not_from_true, not-true, not-false, not_from_false, ltb-true, ltb-false, eqb-true}
 use Rattle.std.proofs.lemmas.Option.{same_Some}
@@ -51,11 +51,13 @@ abbrev pub AllNone : {A : Type 0} → List (Option A) → Type 0
 AllNone [] = Unit {0}
 AllNone (o ∷ os) = (o ≡ None) × AllNone os
 
+-- where no value is first, none is there
 all_none : {A : Type 0} (os : List (Option A)) → first_some os ≡ None → AllNone os
 all_none [] h = tt
 all_none (None ∷ os) h = (refl, all_none os h)
 all_none (Some x ∷ os) h = absurd (cc)
 
+-- a step with an entry was not refused, and is the step itself
 unless_cases : {A E : Type 0} (o : Option E) (s : State) (step : Step A E) (entry : Entry) → (unless_refused o s step).entry ≡ Some entry → (o ≡ None) × (step.entry ≡ Some entry) × (unless_refused o s step ≡ step)
 unless_cases None s step entry h = (refl, h, refl)
 unless_cases (Some e) s step entry h = absurd (cc)
@@ -66,11 +68,13 @@ pub record IsAccepted {A E : Type 0} (refusals : List (Option E)) (s : State) (s
   pub told : step.entry ≡ Some entry
   pub is : unless refusals s step ≡ step
 
+-- a call that adds an entry was not refused, for no reason of the list
 pub unless_accepted : {A E : Type 0} (refusals : List (Option E)) (s : State) (step : Step A E) (entry : Entry) → (unless refusals s step).entry ≡ Some entry → IsAccepted refusals s step entry
 unless_accepted refusals s step entry h =
     let u = unless_cases (first_some refusals) s step entry h in
     record { none = all_none refusals u.0; told = u.1; is = u.2 }
 
+-- each number below the count of the starts has one
 pub start_of : (starts : List CellNo) (r : ℕ) → r < length starts → (a : CellNo) × (slice_get starts r ≡ Some a)
 start_of [] r h = absurd (omega arith)
 start_of (a ∷ rest) zero h = (a, refl)
@@ -84,16 +88,19 @@ robot_start s r e h = start_of s.fleet.starts r (ltb-true r (length s.fleet.star
 pending_there : {E : Type 0} (s : State) (r : ℕ) (e : E) → when (is_none (pending_of s r)) e ≡ None → (old : List CellNo) × (pending_of s r ≡ Some old)
 pending_there s r e h = not_none (pending_of s r) (when_none (is_none (pending_of s r)) e h)
 
+-- where no missing link is found from a cell on, the cells are a walk from it
 linked_walk : (site : Site) (at : ℕ) (a : CellNo) (bs : List CellNo) → first_unlinked site at a bs ≡ None → IsWalkFrom site a bs
 linked_walk site at a [] h = tt
 linked_walk site at a (b ∷ bs) h =
     let p = all_none (when (not (is_linked site a b)) at ∷ first_unlinked site (at + 1) b bs ∷ []) h in
     (not-false (is_linked site a b) (when_none (not (is_linked site a b)) at p.0), linked_walk site (at + 1) b bs p.1.0)
 
+-- where no missing link is found, the cells are a walk
 linked_all : (site : Site) (cells : List CellNo) → unlinked_at site cells ≡ None → IsWalk site cells
 linked_all site [] h = tt
 linked_all site (a ∷ bs) h = linked_walk site 1 a bs h
 
+-- a route that begins at the cell, by the test, has it as its first cell
 begins_there : (a : CellNo) (cells : List CellNo) → begin_at a cells ≡ true → slice_get cells 0 ≡ Some a
 begins_there a [] h = absurd (both_ways false refl h)
 begins_there a (b ∷ bs) h = ap (λ c. Some c) (sym (same_cell a b (eqb-true a.0 b.0 h)))
@@ -105,6 +112,7 @@ record IsProposal (s : State) (r : ℕ) (cells : List CellNo) (block : Option Bl
   route : IsRoute s.fleet r cells
   room : is_full s (propose_growth s cells block) ≡ false
 
+-- a proposal that no refusal fits is of a robot with nothing pending, by a legal route, and has room
 proposal : (s : State) (r : ℕ) (cells : List CellNo) (block : Option Block) → AllNone (propose_refusals s r cells block) → IsProposal s r cells block
 proposal s r cells block none = record {
   start = robot_start s r propose_refused.UnknownRobot none.0;
@@ -227,6 +235,7 @@ accepts_retry s r entry good h = record {
     t : (entry.robot.0 ≡ r) × (entry.act ≡ Retried (first_of s))
     t = told r (Retried (first_of s)) entry is.told
 
+-- the answer of a call that tells nothing more
 abbrev pub nothing : Unit {0}
 nothing = tt
 

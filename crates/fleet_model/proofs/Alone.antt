@@ -1,4 +1,4 @@
--- A replay, robot by robot.
+-- A replay, robot by robot: what a robot holds depends on its own events alone.
 use Rattle.std.proofs.Common.{◌≡◌, ℕ, ◌+◌, ◌<◌, Bool, true, false, cond, not, ◌==◌, ◌⊎◌, inl, inr, refl, sym, ap, ◌∙◌, List, [], ◌∷◌, ◌++◌, map, arith, eq-eqb}
 use Rattle.std.proofs.lemmas.Bool.{or_cases, and_parts, both_ways, not-true}
 use Rattle.fleet_base.specs.declared.numbers.ClaimNo.{ClaimNo}

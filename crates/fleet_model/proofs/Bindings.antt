@@ -75,9 +75,11 @@ stays_apart s good members t (Did e) out r q i j d = deferred_still s (changed s
 stays_apart s good members t c out r q i j d = apart_still s good members t c (λ k. let x = out k in let y = x.1 in cc) r q i j d
 
 module _ (s : State) (members : List ℕ) (closed : IsClosed s members) where
+  -- a member has a route pending
   pends : (t : ℕ) → In t members → pending_of s t ≡ None → ⊥
   pends t i n = let d = (closed t i).2 in let p = d.pending in cc
 
+  -- a member's pending route has a blocker
   blocked : (t : ℕ) (route : List CellNo) → In t members → pending_of s t ≡ Some route → IsClear s.fleet t route → ⊥
   blocked t route i p clear =
       let d = (closed t i).2 in

@@ -20,6 +20,7 @@ pub data Change : Type 0 where
   Cut : Change
   Did : Event → Change
 
+-- the state after the change
 abbrev pub changed : State → ℕ → Change → State
 changed s r (Grew route) = with_route s r route
 changed s r (Kept route) = deferring s r route
@@ -27,9 +28,11 @@ changed s r Dropped = moved s s.fleet r None
 changed s r Cut = moved s (withdrawn s.fleet (removable_tail s.fleet r)) r None
 changed s r (Did e) = record s { fleet = reported s.fleet (Some e); count = s.count + 1 }
 
+-- the robot has a start
 abbrev pub HasStart : Fleet → ℕ → Type 0
 HasStart m r = (a : CellNo) × (slice_get m.starts r ≡ Some a)
 
+-- the route has no blocker
 abbrev pub IsClear : Fleet → ℕ → List CellNo → Type 0
 IsClear m r route = (c : ClaimNo) (q : ℕ) → IsBlocker m r route c q → ⊥
 

@@ -1,4 +1,4 @@
--- Conflicts go both ways, and no footprint names a claim twice.
+-- Conflicts go both ways, and no footprint has a claim twice.
 use Rattle.std.proofs.Common.{◌≡◌, ℕ, ◌+◌, ◌<◌, true, false, ◌==◌, ◌⊎◌, inl, inr, refl, sym, List, [], ◌∷◌, arith, eq-eqb, Option, Some, None}
 use Rattle.std.proofs.lemmas.Bool.{both_ways, cases_Bool, eqb-true, ne_eqb, and_parts, and_from, or_from}
 use Rattle.std.specs.Prelude.{slice_get}

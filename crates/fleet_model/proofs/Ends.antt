@@ -1,4 +1,4 @@
--- The ends of robots that a change of the plan leaves where they are.
+-- Ends that a change leaves where they are, and that no two robots' ends conflict.
 use Rattle.std.proofs.Common.{◌≡◌, ℕ, sym, refl, ap, ◌∙◌, subst, List, ◌++◌, map, Some, ◌≢◌, true, ◌⊎◌, inl, inr}
 use Rattle.std.proofs.lemmas.List.{append-nil}
 use Rattle.fleet_base.specs.declared.numbers.CellNo.{CellNo}
@@ -21,6 +21,7 @@ end_same m n q s t h = end_is m q ∙ (ap (λ x. x.cell) (same_spot s t h) ∙ s
     same_spot : m.site ≡ n.site → m.starts ≡ n.starts → kinds q m.plan ≡ kinds q n.plan → after_kinds (opening m.site m.starts q) (kinds q m.plan) ≡ after_kinds (opening n.site n.starts q) (kinds q n.plan)
     same_spot s t h = λ i. after_kinds (opening (s i) (t i) q) (h i)
 
+-- a merge leaves the other robots their ends
 pub merged_end : (m : Fleet) (r : ℕ) (route : List CellNo) (q : ℕ) → (r ≡ q → ⊥) → end_of (merged m r route) q ≡ end_of m q
 merged_end m r route q h =
     end_same (merged m r route) m q refl refl (kinds-append q m.plan (route_events m r route) ∙ (ap (λ es. kinds q m.plan ++ map (λ (e : Event). e.kind) es) (own-numbered m.next r q (steps m.site route) h) ∙ append-nil (kinds q m.plan)))

@@ -16,16 +16,19 @@ module _ {A : Type 0} where
   pub filter_out : (p : A → Bool) (x : A) (xs : List A) → p x ≡ false → filter p (x ∷ xs) ≡ filter p xs
   filter_out p x xs h = rw h refl
 
+  -- one more element keeps the order of the two lengths
   filter_le_step : (p q : A → Bool) (x : A) (xs : List A) (a b : Bool) → (a ≡ true → b ≡ true) → length (filter p xs) ≤ length (filter q xs) → length (cond a (x ∷ filter p xs) (filter p xs)) ≤ length (cond b (x ∷ filter q xs) (filter q xs))
   filter_le_step p q x xs true true f rest = omega arith
   filter_le_step p q x xs false true f rest = omega arith
   filter_le_step p q x xs false false f rest = rest
   filter_le_step p q x xs true false f rest = absurd (both_ways false refl (f refl))
 
+  -- a test that passes no more leaves no more
   pub filter_le : (p q : A → Bool) (xs : List A) → ((x : A) → In x xs → p x ≡ true → q x ≡ true) → length (filter p xs) ≤ length (filter q xs)
   filter_le p q [] f = omega arith
   filter_le p q (x ∷ xs) f = filter_le_step p q x xs (p x) (q x) (f x (here refl)) (filter_le p q xs (λ y i h. f y (there i) h))
 
+  -- one more element keeps the strict order of the two lengths
   filter_less_step : (p q : A → Bool) (x : A) (xs : List A) (a b : Bool) → (a ≡ true → b ≡ true) → length (filter p xs) + 1 ≤ length (filter q xs) → length (cond a (x ∷ filter p xs) (filter p xs)) + 1 ≤ length (cond b (x ∷ filter q xs) (filter q xs))
   filter_less_step p q x xs true true f rest = omega arith
   filter_less_step p q x xs false true f rest = omega arith
@@ -38,6 +41,7 @@ module _ {A : Type 0} where
   filter_less p q (x ∷ xs) z f (here e) n y = rw (ap p (sym e) ∙ n, ap q (sym e) ∙ y) (let k = filter_le p q xs (λ w i h. f w (there i) h) in omega arith)
   filter_less p q (x ∷ xs) z f (there m) n y = filter_less_step p q x xs (p x) (q x) (f x (here refl)) (filter_less p q xs z (λ w i h. f w (there i) h) m n y)
 
+  -- one more element leaves the filtered list shorter
   filter_misses_step : (p : A → Bool) (x : A) (xs : List A) (a : Bool) → length (filter p xs) + 1 ≤ length xs → length (cond a (x ∷ filter p xs) (filter p xs)) + 1 ≤ length (x ∷ xs)
   filter_misses_step p x xs true rest = omega arith
   filter_misses_step p x xs false rest = omega arith
@@ -48,10 +52,12 @@ module _ {A : Type 0} where
   filter_misses p (x ∷ xs) z (here e) n = rw (ap p (sym e) ∙ n) (let k = length-filter-le p xs in omega arith)
   filter_misses p (x ∷ xs) z (there m) n = filter_misses_step p x xs (p x) (filter_misses p xs z m n)
 
+  -- a filter that each element passes changes nothing
   pub filter_all : (p : A → Bool) (es : List A) → ((e : A) → In e es → p e ≡ true) → filter p es ≡ es
   filter_all p [] h = refl
   filter_all p (e ∷ es) h = filter_in p e es (h e (here refl)) ∙ ap (λ zs. e ∷ zs) (filter_all p es (λ x i. h x (there i)))
 
+  -- a filter that no element passes leaves nothing
   pub filter_none : (p : A → Bool) (es : List A) → ((e : A) → In e es → p e ≡ false) → filter p es ≡ []
   filter_none p [] h = refl
   filter_none p (e ∷ es) h = filter_out p e es (h e (here refl)) ∙ filter_none p es (λ x i. h x (there i))

@@ -48,9 +48,11 @@ held_robot site (Some a) ks c h held = (a, refl)
 
 module _ (m : Fleet) (r : ℕ) (a : CellNo) (route : List CellNo) (is_site : IsSite m.site) (good : IsGoodPlan m) (robot : slice_get m.starts r ≡ Some a) (is_route : IsRoute m r route)
     (no_blocker : (c : ClaimNo) (q : ℕ) → IsBlocker m r route c q → ⊥) where
+  -- the events of the route
   abbrev news : List Event
   news = route_events m r route
 
+  -- the plan with the route
   abbrev after : Fleet
   after = merged m r route
 
@@ -65,6 +67,7 @@ module _ (m : Fleet) (r : ℕ) (a : CellNo) (route : List CellNo) (is_site : IsS
   still : (q : ℕ) (c : ClaimNo) (low high : ℕ) → Closes m.plan q c low high → Closes after.plan q c low high
   still q c low high x = record { event = x.event; planned = In-append_left m.plan news x.planned; robot = x.robot; kind = x.kind; above = x.above; below = x.below }
 
+  -- a use that an event of the route opens
   abbrev New : ℕ → ClaimNo → ℕ → Type 0
   New q c n = (e : Event) × In e news × (e.robot.0 ≡ q) × (e.kind ≡ Acquire c) × (e.no.0 ≡ n)
 

@@ -34,6 +34,7 @@ report_good m e good ready = record {
   uses = good.uses;
 }
 
+-- each change that can be made keeps the plan good
 pub changed_plan : (s : State) → IsSite s.fleet.site → IsGood s → (r : ℕ) (c : Change) → CanChange s r c → IsGoodPlan (changed s r c).fleet
 changed_plan s is_site good r (Grew route) can = merge_good s.fleet r can.0.0 route is_site good.plan can.0.1 can.1 can.2
 changed_plan s is_site good r (Kept route) can = good.plan
@@ -48,9 +49,11 @@ others_still s good n r x same ends new q route h =
     elim (pending_cases s.pending r q x route h)
     [ inl a ↦ subst (λ k. IsRoute n k route) a.0 (new route a.1) | inr a ↦ route_still s.fleet n q route same (sym (ends q a.0)) (good.routes q route a.1) ]
 
+-- where nothing is pending, no route is
 none_new : (n : Fleet) (r : ℕ) (route : List CellNo) → None ≡ Some route → IsRoute n r route
 none_new n r route e = absurd (cc)
 
+-- each change that can be made leaves pending routes legal
 pub changed_routes : (s : State) → IsGood s → (r : ℕ) (c : Change) → CanChange s r c → (q : ℕ) (route : List CellNo) → pending_of (changed s r c) q ≡ Some route → IsRoute (changed s r c).fleet q route
 changed_routes s good r (Grew new) can q route p = others_still s good (merged s.fleet r new) r None refl (merged_end s.fleet r new) (none_new (merged s.fleet r new) r) q route p
 changed_routes s good r (Kept new) can q route p = others_still s good s.fleet r (Some new) refl (λ k e. refl) (λ other e. subst (λ x. IsRoute s.fleet r x) (same_Some new other e) can.1) q route p
@@ -58,6 +61,7 @@ changed_routes s good r Dropped can q route p = others_still s good s.fleet r No
 changed_routes s good r Cut can q route p = others_still s good (withdrawn s.fleet (removable_tail s.fleet r)) r None refl (λ k e. withdrawn_end s.fleet r k good.plan e) (none_new (withdrawn s.fleet (removable_tail s.fleet r)) r) q route p
 changed_routes s good r (Did e) can q route p = let old = good.routes q route p in record { long = old.long; short = old.short; linked = old.linked; begins = old.begins }
 
+-- each change leaves each robot its place for a pending route
 changed_places : (s : State) → IsGood s → (r : ℕ) (c : Change) → length (changed s r c).pending ≡ length (changed s r c).fleet.starts
 changed_places s good r (Grew route) = length-set s.pending r None ∙ good.places
 changed_places s good r (Kept route) = length-set s.pending r (Some route) ∙ good.places
@@ -65,6 +69,7 @@ changed_places s good r Dropped = length-set s.pending r None ∙ good.places
 changed_places s good r Cut = length-set s.pending r None ∙ good.places
 changed_places s good r (Did e) = good.places
 
+-- each change that can be made takes at most 7,161 numbers
 changed_numbers : (s : State) → IsSite s.fleet.site → IsGood s → (r : ℕ) (c : Change) → CanChange s r c → (changed s r c).fleet.next ≤ (changed s r c).fleet.first + 7161 * (s.count + 1)
 changed_numbers s is_site good r (Grew route) can = let n = steps_few s.fleet.site is_site route can.1.short in let old = good.numbers in omega arith
 changed_numbers s is_site good r (Kept route) can = let old = good.numbers in omega arith
@@ -86,6 +91,7 @@ changed_good s is_site good r c can room = record {
 pub accepts_at : (s : State) (entry : Entry) → IsSite s.fleet.site → IsGood s → (turn_at s entry).entry ≡ Some entry → Accepts s entry.robot.0 entry (turn_at s entry).after
 accepts_at s entry is_site good h = accepts s entry.robot.0 (call_of entry.act) entry is_site good h
 
+-- an entry of a legal journal keeps the state good, and the site
 pub turn_good : (s : State) (entry : Entry) → IsSite s.fleet.site → IsGood s → (turn_at s entry).entry ≡ Some entry → IsGood (turn_at s entry).after × IsSite (turn_at s entry).after.fleet.site
 turn_good s entry is_site good h =
     let a = accepts_at s entry is_site good h in (

@@ -1,4 +1,4 @@
--- Insertions against the merge: with a blocker none is safe; without one some is; and none that is safe allows more than the merge.
+-- With a blocker no insertion is safe; under a safe one no acquire of the route comes before a conflicting release of the plan.
 use Rattle.std.proofs.Common.{◌≡◌, ◌≢◌, ℕ, ◌<◌, ◌≤◌, Bool, true, false, cond, not, ◌||◌, ◌&&◌, ◌⊎◌, inl, inr, refl, sym, ap, ◌∙◌, subst, List, [], ◌∷◌, ◌++◌, map, arith, append_assoc}
 use Rattle.std.proofs.lemmas.Bool.{both_ways, cases_Bool, not-true, not_from_false, and_parts, and_from, or_cases, or_left, or_right, ltb-true, ltb-false, lt-ltb, le-ltb}
 use Rattle.std.proofs.lemmas.List.{append-nil, map-append}
@@ -25,18 +25,23 @@ use Rattle.fleet_model.proofs.Merge.{news_high}
 use Rattle.fleet_model.proofs.Orders as orders
 
 module _ (m : Fleet) (r : ℕ) (route : List CellNo) (is_site : IsSite m.site) (good : IsGoodPlan m) (pairs : Insertion) (insertion : IsInsertion m (route_events m r route) pairs) where
+  -- the events of the route
   abbrev news : List Event
   news = route_events m r route
 
+  -- the plan with the events of the route
   abbrev plan : List Event
   plan = m.plan ++ news
 
+  -- what an event comes behind, with the pairs of the insertion
   abbrev by : Event → Event → Type 0
   by e f = IsBehindBy m pairs e f
 
+  -- where the robots start
   abbrev start : Spots
   start = opening m.site m.starts
 
+  -- the events of the route are those of its robot
   moving : (e : Event) → In e news → e.robot.0 ≡ r
   moving e i = numbered-robot m.next r (steps m.site route) e i
 
@@ -73,6 +78,7 @@ module _ (m : Fleet) (r : ℕ) (route : List CellNo) (is_site : IsSite m.site) (
   finished_low : (e : Event) → In e plan → m.next ≤ e.no.0 → is_done m.finished e ≡ false
   finished_low e i l = done_none m.finished e (λ g j n. let k = good.next g ((orders.order_kept (IsBehind m.site.groups) m.plan (from_one m good) (λ x y a b. inl (a, b)) [] m.finished (orders.kept_none (IsBehind m.site.groups) m.plan) good.finished).planned g j) in omega arith)
 
+  -- what is done is of the plan, with all that it comes behind
   abbrev Kept : List Event → Type 0
   Kept done = orders.IsKept by plan done
 
@@ -90,6 +96,7 @@ module _ (m : Fleet) (r : ℕ) (route : List CellNo) (is_site : IsSite m.site) (
       ap (λ (t : Spot). t.holds d) (replay_own start done q
       ∙ ap (λ es. after_kinds (start q) (map (λ (e : Event). e.kind) es)) (orders.all_own by plan rises by_own done q kept (λ g i s. elim (In-append_cases m.plan news i) [ inl j ↦ all g j s | inr j ↦ absurd (apart (sym (moving g j) ∙ s)) ]) ∙ own_old q apart))
 
+  -- the event is not finished
   abbrev undone : Event → Bool
   undone e = not (is_done m.finished e)
 
@@ -157,6 +164,7 @@ module _ (m : Fleet) (r : ℕ) (route : List CellNo) (is_site : IsSite m.site) (
   -- an acquire e of the newcomer that comes while a release x of a conflicting claim, which is to come before it, isn't done
   module _ (safe : IsSafeInsertion m news pairs) (before : List Event) (e : Event) (ordered : IsOrder by plan m.finished (before ++ e ∷ [])) (in_news : In e news) (c d : ClaimNo) (kind : e.kind ≡ Acquire c)
       (x : Event) (x_planned : In x m.plan) (x_kind : x.kind ≡ Release d) (x_robot : x.robot.0 ≢ e.robot.0) (conflict : in_conflict m.site.groups c d ≡ true) (waiting : is_done (m.finished ++ before) x ≡ false) where
+    -- what came, with the acquire
     abbrev whole : List Event
     whole = before ++ e ∷ []
 
@@ -164,9 +172,11 @@ module _ (m : Fleet) (r : ℕ) (route : List CellNo) (is_site : IsSite m.site) (
     abbrev early : Event → Bool
     early f = not (is_done m.finished f) && (nat_lt f.no.0 m.next && (is_done whole f || nat_lt f.no.0 x.no.0))
 
+    -- the event has a high number: it is of the route
     abbrev fresh : Event → Bool
     fresh f = not (nat_lt f.no.0 m.next)
 
+    -- the old events that came early, by number
     abbrev olds : List Event
     olds = filter early plan
 
@@ -255,6 +265,7 @@ module _ (m : Fleet) (r : ℕ) (route : List CellNo) (is_site : IsSite m.site) (
     news_order front [] h = tt
     news_order front (f ∷ rest) h = news_step front f rest (fresh f) h refl (news_order (front ++ f ∷ []) rest (h ∙ sym (append_assoc front (f ∷ []) rest)))
 
+    -- the old events that came early, and then the new ones that came
     abbrev came : List Event
     came = olds ++ filter fresh before
 

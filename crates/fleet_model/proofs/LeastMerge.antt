@@ -1,4 +1,4 @@
--- The merge against all insertions.
+-- The merge allows what each safe insertion allows; and without a blocker some insertion is safe.
 use Rattle.std.proofs.Common.{◌≡◌, ◌≢◌, ℕ, ◌<◌, ◌≤◌, Bool, true, false, not, ◌==◌, ◌&&◌, ◌⊎◌, inl, inr, refl, sym, ap, ◌∙◌, subst, List, [], ◌∷◌, ◌++◌, map, Some, append_assoc}
 use Rattle.std.proofs.lemmas.Bool.{both_ways, cases_Bool, cases_lt, not-true, not_from_false, and_parts, eqb-false}
 use Rattle.std.specs.Prelude.{slice_get, nat_lt}
@@ -46,9 +46,11 @@ awaited_parts groups e f h =
     (eqb-false f.robot.0 e.robot.0 (not-true (f.robot.0 == e.robot.0) b.0), at_odds groups e.kind f.kind b.1)
 
 module _ (m : Fleet) (r : ℕ) (route : List CellNo) (is_site : IsSite m.site) (good : IsGoodPlan m) where
+  -- the events of the route
   abbrev news : List Event
   news = route_events m r route
 
+  -- the plan with the events of the route
   abbrev plan : List Event
   plan = m.plan ++ news
 
@@ -57,6 +59,7 @@ module _ (m : Fleet) (r : ℕ) (route : List CellNo) (is_site : IsSite m.site) (
   is_old e f i j apart = elim (In-append_cases m.plan news j) [ inl k ↦ k | inr k ↦ absurd (apart (numbered-robot m.next r (steps m.site route) f k ∙ sym (numbered-robot m.next r (steps m.site route) e i))) ]
 
   module _ (pairs : Insertion) (insertion : IsInsertion m news pairs) (safe : IsSafeInsertion m news pairs) where
+    -- what an event comes behind, with the pairs of the insertion
     abbrev by : Event → Event → Type 0
     by e f = IsBehindBy m pairs e f
 
@@ -90,6 +93,7 @@ module _ (m : Fleet) (r : ℕ) (route : List CellNo) (is_site : IsSite m.site) (
             waited f i (inl o) = ready.waited f i (inl o)
             waited f i (inr a) = by_number f i a (cases_lt e.no.0 m.next)
 
+  -- the event is not finished
   abbrev undone : Event → Bool
   undone e = not (is_done m.finished e)
 
@@ -107,6 +111,7 @@ module _ (m : Fleet) (r : ℕ) (route : List CellNo) (is_site : IsSite m.site) (
       (In-append_left (map (λ (y : Event). (y, g)) (filter undone (after m.site.groups m.plan g))) (pairs_of gs) (In-map (λ (y : Event). (y, g)) (filter undone (after m.site.groups m.plan g)) (In-filter undone (after m.site.groups m.plan g) (In-filter (is_awaited m.site.groups g) m.plan p (rw (← h) a)) (not_from_false (is_done m.finished f) u))))
   pairs_have (g ∷ gs) e f (there i) p a u = In-append_right (map (λ (y : Event). (y, g)) (filter undone (after m.site.groups m.plan g))) (pairs_of gs) (pairs_have gs e f i p a u)
 
+  -- the pair is of an unfinished event of the plan and one of these
   pub record IsPaired (es : List Event) (f e : Event) : Type 0 where
     pub planned : In f m.plan
     pub undone_then : is_done m.finished f ≡ false
@@ -130,6 +135,7 @@ module _ (m : Fleet) (r : ℕ) (route : List CellNo) (is_site : IsSite m.site) (
             new = here (ap (λ (p : Event × Event). p.1) x.2);
           }
 
+  -- each event of the route with all that it waits for in the plan before
   abbrev all_pairs : Insertion
   all_pairs = pairs_of news
 

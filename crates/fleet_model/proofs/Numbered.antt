@@ -13,6 +13,7 @@ pub numbered-ascending : (n r : ℕ) (ks : List Kind) → IsAscending n (numbere
 numbered-ascending n r [] = tt
 numbered-ascending n r (k ∷ ks) = (omega arith, numbered-ascending (n + 1) r ks)
 
+-- they are all of that robot
 pub numbered-robot : (n r : ℕ) (ks : List Kind) (e : Event) → In e (numbered n r ks) → e.robot.0 ≡ r
 numbered-robot n r [] e m = elim m [ ]
 numbered-robot n r (k ∷ ks) e m = In_either m (λ i. ap (λ (x : Event). x.robot.0) i) (λ j. numbered-robot (n + 1) r ks e j)

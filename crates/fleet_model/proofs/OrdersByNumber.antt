@@ -1,4 +1,4 @@
--- The events of a plan that pass a test, by number, are an order where the test goes down along what they come behind.
+-- Where the events that pass a test wait for nothing but what is done or passes with a smaller number, they are an order by number.
 use Rattle.std.proofs.Common.{◌≡◌, ◌+◌, ◌<◌, Bool, true, false, cond, ◌⊎◌, inl, inr, refl, sym, ap, ◌∙◌, subst, List, [], ◌∷◌, ◌++◌, arith, append_assoc}
 use Rattle.std.proofs.lemmas.List.{append-nil}
 use Rattle.std.proofs.lemmas.List.Elements.{filter-append}

@@ -30,6 +30,7 @@ module _ {A : Type 0} where
   filled_le (None ∷ ps) (suc r) x = let k = filled_le ps r x in omega arith
   filled_le (Some y ∷ ps) (suc r) x = let k = filled_le ps r x in omega arith
 
+-- what is there once a place is set is the new one in that place, or an old one in another
 pub pending_cases : (ps : List (Option (List CellNo))) (s r : ℕ) (x : Option (List CellNo)) (y : List CellNo) → get_or (set ps s x) r None ≡ Some y → ((s ≡ r) × (x ≡ Some y)) ⊎ ((s ≡ r → ⊥) × (get_or ps r None ≡ Some y))
 pending_cases [] s r x y h = absurd (cc)
 pending_cases (p ∷ ps) zero zero x y h = inl (refl, h)

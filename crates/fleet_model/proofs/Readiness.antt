@@ -1,4 +1,4 @@
--- Readiness over the events that are kept, readiness that lasts, and ends.
+-- When an event is ready over the events that are kept, and how long it stays so.
 use Rattle.std.proofs.Common.{◌≡◌, ◌≢◌, ℕ, Bool, true, false, not, ◌⊎◌, inl, inr, sym, ap, ◌∙◌, List, [], ◌∷◌, ◌++◌}
 use Rattle.std.proofs.lemmas.Bool.{cases_Bool, not-true, not_from_false}
 use Rattle.std.specs.List.{filter}
@@ -13,6 +13,7 @@ use Rattle.fleet_model.proofs.Numbers.{done_neither, done_left, done_none}
 use Rattle.fleet_model.proofs.Merge.{allowed_still}
 use Rattle.fleet_model.proofs.Filters.{filter_swap}
 
+-- the event is not among these
 abbrev undone : List Event → Event → Bool
 undone done e = not (is_done done e)
 

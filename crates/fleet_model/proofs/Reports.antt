@@ -64,6 +64,7 @@ ready_waits m e ready = ap (λ es. option_map (λ (f : Event). f.no) (latest es)
         let a = In_unfilter (is_awaited m.site.groups e) m.plan u.0 in
         both_ways (is_done m.finished f) (not-true (is_done m.finished f) u.1) (ready.waited f a.0 (inr a.1))
 
+-- a robot that does something has a start
 no_steps : (m : Fleet) (r : ℕ) (o : Option CellNo) → slice_get m.starts r ≡ o → AreSteps m.site o (kinds r m.plan) → (k : Kind) → In k (kinds r m.plan) → r < length m.starts
 no_steps m r None s h k i = absurd (In-nil (subst (λ ks. In k ks) h i))
 no_steps m r (Some a) s h k i = slice_get_within m.starts r a s
@@ -73,6 +74,7 @@ pub planned_robot : (m : Fleet) (e : Event) → IsGoodPlan m → In e m.plan →
 planned_robot m e good i =
     no_steps m e.robot.0 (slice_get m.starts e.robot.0) refl (good.walks e.robot.0) e.kind (In-map (λ (f : Event). f.kind) (own e.robot.0 m.plan) (In_own e.robot.0 m.plan i refl))
 
+-- a report that no refusal fits is accepted
 report_at : (s : State) (r : ℕ) (n : EventNo) (e : Event) (o : Option Event) → o ≡ Some e → is_robot s r ≡ true → is_number (Some e) n ≡ true → waits_on s.fleet e ≡ None
     → unless (report_refusals s r n o) s (accepted nothing r (Reported n) (record s { fleet = reported s.fleet o; count = s.count + 1 })) ≡ accepted nothing r (Reported n) (record s { fleet = reported s.fleet (Some e); count = s.count + 1 })
 report_at s r n e o is known numbered waits =
@@ -110,6 +112,7 @@ ready_still s r Cut (Withdrawn removed end) e good tells can other own ready = r
 ready_still s r (Did f) (Reported event) e good tells can other own ready = ready_reported s.fleet e f (λ k. other (ap (λ n. Reported n) (sym tells ∙ same_number f.no e.no k))) ready
 ready_still s r c a e good tells can other own ready = absurd tells
 
+-- at each entry a ready event stays ready but for its own report and its own robot's withdrawal
 pub ready_lasts : (s : State) (entry : Entry) (e : Event) → IsSite s.fleet.site → IsGood s → (turn_at s entry).entry ≡ Some entry → entry.act ≢ Reported e.no → (IsWithdrawal entry.act → entry.robot.0 ≢ e.robot.0) → IsReady (IsBehind s.fleet.site.groups) s.fleet.plan s.fleet.finished e
     → IsReady (IsBehind (turn_at s entry).after.fleet.site.groups) (turn_at s entry).after.fleet.plan (turn_at s entry).after.fleet.finished e
 ready_lasts s entry e is_site good told other own ready =

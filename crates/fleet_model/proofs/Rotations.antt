@@ -1,11 +1,11 @@
--- A cycle may begin at each of its members, and cycles of deferrals as relations.
-use Rattle.std.proofs.Common.{◌≡◌, ◌≢◌, ◌↔◌, ℕ, Bool, true, inl, inr, refl, sym, subst, List, [], ◌∷◌, ◌++◌, length}
+-- A cycle may begin at each of its members; a cycle of deferrals stands where its deferrals do.
+use Rattle.std.proofs.Common.{◌≡◌, ◌≢◌, ◌↔◌, ℕ, Bool, true, refl, sym, subst, List, [], ◌∷◌, ◌++◌, length}
 use Rattle.std.proofs.lemmas.Bool.{both_ways, and_parts, and_from}
 use Rattle.fleet_model.specs.Lists.{In}
 use Rattle.fleet_model.specs.Cycles.{leads, are_distinct, is_cycle, IsLeastCycle}
 use Rattle.fleet_model.specs.States.{State, is_deferred_on, IsDeferredOn, cycle_of}
 use Rattle.fleet_model.specs.Sound.{IsCycle}
-use Rattle.fleet_model.proofs.Lists.{In_split, In-append_left, In-append_right, In-append_cases}
+use Rattle.fleet_model.proofs.Lists.{In_split, In_swap}
 use Rattle.fleet_model.proofs.Distinct.{distinct_split, distinct_join}
 use Rattle.fleet_model.proofs.Cycles.{IsCycleOf, cycle_parts, cycle_from, cycle_next, cycle_on}
 use Rattle.fleet_model.proofs.Deferrals.{deferred_true, true_deferred, cycle_of_least}
@@ -30,10 +30,6 @@ module _ (edge : ℕ → ℕ → Bool) where
   leads_join r z x (y ∷ ys) zs h g =
       let p = and_parts (edge x y) (leads edge z (y ∷ ys)) h in
       and_from (edge x y) (leads edge r (y ∷ (ys ++ z ∷ zs))) p.0 (leads_join r z y ys zs p.1 g)
-
--- a list has the same elements where its two parts are swapped
-pub In_swap : {A : Type 0} {x : A} (xs ys : List A) → In x (xs ++ ys) → In x (ys ++ xs)
-In_swap xs ys m = elim (In-append_cases xs ys m) [ inl i ↦ In-append_right ys xs i | inr j ↦ In-append_left ys xs j ]
 
 -- the same cycle, begun with r
 pub record IsTurned (edge : ℕ → ℕ → Bool) (zs : List ℕ) (r : ℕ) (rs : List ℕ) : Type 0 where

@@ -1,4 +1,4 @@
--- The order of routes: by cost, and then as lists of cells.
+-- The order of routes, by cost and then as lists of cells, is total.
 use Rattle.std.proofs.Common.{◌≡◌, ℕ, ◌<◌, true, false, ◌⊎◌, inl, inr, refl, List, map, arith}
 use Rattle.fleet_base.specs.declared.numbers.CellNo.{CellNo}
 use Rattle.fleet_model.specs.Cycles.{is_upto}

@@ -32,6 +32,7 @@ use Rattle.fleet_model.proofs.Bindings.{cycle_binds, cycle_stood}
 use Rattle.fleet_model.proofs.Changes.{Change, Grew, Kept, Dropped, Cut, Did, changed, CanChange, Accepts, Tells}
 use Rattle.fleet_base.specs.RobotLists.{numbers_of-robots_of}
 
+-- a good state is sound
 pub sound_state : (s : State) → IsSite s.fleet.site → IsGood s → IsSoundState s
 sound_state s is_site good = record {
   safe = good_safe s.fleet is_site good.plan;
@@ -58,6 +59,7 @@ record IsKeptAs (s : State) (r : ℕ) (c : Change) (cells : List CellNo) (cycle 
   is : c ≡ Kept cells
   names : cycle ≡ robots_of (cycle_of (deferring s r cells) r)
 
+-- an entry Deferred kept its route as pending, and names the cycle through its robot
 deferred_kept : (s : State) (r : ℕ) (c : Change) (cells : List CellNo) (cycle : List RobotNo) → CanChange s r c → Tells s r c (Deferred cells cycle) → IsKeptAs s r c cells cycle
 deferred_kept s r (Kept route) cells cycle can t = record {
   can = subst (λ x. CanChange s r (Kept x)) t.0 can;
@@ -66,9 +68,11 @@ deferred_kept s r (Kept route) cells cycle can t = record {
 }
 deferred_kept s r c cells cycle can t = absurd t
 
+-- where some robots are listed, some numbers are
 some_robots : (numbers : List ℕ) → robots_of numbers ≢ [] → numbers ≢ []
 some_robots numbers n e = n (ap robots_of e)
 
+-- where some numbers are listed, some robots are
 some_numbers : (numbers : List ℕ) → numbers ≢ [] → robots_of numbers ≢ []
 some_numbers [] n e = n refl
 some_numbers (x ∷ xs) n e = cc
@@ -77,21 +81,26 @@ some_numbers (x ∷ xs) n e = cc
 cycle_of_stands : (s : State) (r : ℕ) → length s.pending ≡ length s.fleet.starts → cycle_of s r ≢ [] → IsCycle s (cycle_of s r)
 cycle_of_stands s r places some = at (cycle_of s r) (least_is_cycle (is_deferred_on s) r (cycle_of s r) (cycle_of_least s r places) some)
   where
+    -- the state in front of it
     at : (xs : List ℕ) → is_cycle (is_deferred_on s) r xs ≡ true → IsCycle s xs
     at [] h = absurd (both_ways false refl h)
     at (x ∷ xs) h = let same : x ≡ r = eqb-true x r (and_parts (x == r) (are_distinct (x ∷ xs) && leads (is_deferred_on s) r (x ∷ xs)) h).0 in subst (λ y. is_cycle (is_deferred_on s) y (x ∷ xs) ≡ true) (sym same) h
 
 module _ (s : State) (entry : Entry) (is_site : IsSite s.fleet.site) (good : IsGood s) (told : (turn_at s entry).entry ≡ Some entry) where
+  -- the robot of the entry
   abbrev robot : ℕ
   robot = entry.robot.0
 
+  -- what the call of the entry did
   known : Accepts s entry.robot.0 entry (turn_at s entry).after
   known = accepts_at s entry is_site good told
 
+  -- what the entry tells, where its act is known
   tells_as : (a : Act) → entry.act ≡ a → Tells s entry.robot.0 known.change a
   unfolding known
   tells_as a e = subst (λ x. Tells s entry.robot.0 known.change x) e known.tells
 
+  -- what an entry Deferred tells
   kept_as : (route : List CellNo) (cycle : List RobotNo) → entry.act ≡ Deferred route cycle → IsKeptAs s entry.robot.0 known.change route cycle
   kept_as route cycle e = deferred_kept s entry.robot.0 known.change route cycle known.can (tells_as (Deferred route cycle) e)
 
@@ -101,9 +110,11 @@ module _ (s : State) (entry : Entry) (is_site : IsSite s.fleet.site) (good : IsG
       let k = kept_as route cycle e in
       k.names ∙ ap (λ n. robots_of (cycle_of n entry.robot.0)) (sym (known.after_is ∙ ap (λ c. changed s entry.robot.0 c) k.is))
 
+  -- behind the entry each robot has its place for a pending route
   places_after : length (turn_at s entry).after.pending ≡ length (turn_at s entry).after.fleet.starts
   places_after = (turn_good s entry is_site good told).0.places
 
+  -- an entry of a legal journal is sound at its state
   pub sound_entry : IsSoundEntry s entry
   sound_entry = record {
     allows = λ m order allowed.
@@ -143,10 +154,12 @@ record LastDeferral (members : List ℕ) (journal : List Entry) : Type 0 where
   member : In robot.0 members
   last : NoneDefers members behind
 
+-- where one more entry is no deferral of a member, none of the entries is one
 none_more : (members : List ℕ) (entry : Entry) (entries : List Entry) → (In entry.robot.0 members → IsDeferral entry.act → ⊥) → NoneDefers members entries → NoneDefers members (entry ∷ entries)
 none_more members entry entries first rest other i m d =
     In_either i (λ e. first (subst (λ (x : Entry). In x.robot.0 members) e m) (subst (λ (x : Entry). IsDeferral x.act) e d)) (λ j. rest other j m d)
 
+-- in front of entries that have no deferral of a member, one more entry is the last such or none is
 last_first : (members : List ℕ) (robot : RobotNo) (act : Act) (entries : List Entry) → NoneDefers members entries → (list_any (λ q. q == robot.0) members ≡ true) ⊎ (list_any (λ q. q == robot.0) members ≡ false)
     → NoneDefers members (record { robot = robot; act = act } ∷ entries) ⊎ LastDeferral members (record { robot = robot; act = act } ∷ entries)
 last_first members robot (Deferred route cycle) entries none (inl t) =
@@ -155,6 +168,7 @@ last_first members robot (Deferred route cycle) entries none (inl t) =
 last_first members robot act entries none (inr f) = inl (none_more members (record { robot = robot; act = act }) entries (λ m d. absent_out robot.0 members f m) none)
 last_first members robot act entries none t = inl (none_more members (record { robot = robot; act = act }) entries (λ m d. d) none)
 
+-- a journal has a last deferral of a member, or none
 last_deferral : (members : List ℕ) (journal : List Entry) → NoneDefers members journal ⊎ LastDeferral members journal
 last_deferral members [] = inl (λ entry i. elim i [ ])
 last_deferral members (entry ∷ entries) =
@@ -166,21 +180,27 @@ last_deferral members (entry ∷ entries) =
 -- the state in front of a deferral, and the cycle that stands behind it
 module _ (opening : State) (is_site : IsSite opening.fleet.site) (good : IsGood opening) (before : List Entry) (robot : RobotNo) (route : List CellNo) (cycle : List RobotNo) (behind : List Entry)
     (legal : IsJournal opening (before ++ record { robot = robot; act = Deferred route cycle } ∷ behind)) where
+  -- the entry of the deferral
   abbrev deferral : Entry
   deferral = record { robot = robot; act = Deferred route cycle }
 
+  -- the state in front of it
   abbrev at : State
   at = state_after opening before
 
+  -- the state behind it
   abbrev later : State
   later = (turn_at at deferral).after
 
+  -- the parts of the journal are journals
   parts : IsJournal opening before × IsJournal at (deferral ∷ behind)
   parts = journal_parts opening before (deferral ∷ behind) legal
 
+  -- the state in front of it is good
   good_at : IsGood at × IsSite at.fleet.site
   good_at = journal_good opening before is_site good parts.0
 
+  -- the state behind it is good
   good_later : IsGood later × IsSite later.fleet.site
   good_later = turn_good at deferral good_at.1 good_at.0 parts.1.0
 
@@ -197,6 +217,7 @@ module _ (opening : State) (is_site : IsSite opening.fleet.site) (good : IsGood 
       let turned = deferrals_turn later members robot.0 stood member in
       some_numbers (cycle_of later robot.0) ((cycle_of_some later robot.0 good_later.0.places).1 (turned.0, turned.1)) (sym names_later ∙ empty)
 
+  -- the cycle that the deferral names stands behind it
   stands_later : cycle ≢ [] → IsCycle later (numbers_of cycle)
   stands_later some =
       let is : numbers_of cycle ≡ cycle_of later robot.0 = ap numbers_of names_later ∙ numbers_of-robots_of (cycle_of later robot.0) in
@@ -209,9 +230,11 @@ module _ (opening : State) (is_site : IsSite opening.fleet.site) (good : IsGood 
       let b = cycle_binds later (numbers_of cycle) behind good_later.1 good_later.0 (stands_later some) parts.1.1 true_to in
       (subst (λ n. IsCycle n (numbers_of cycle)) (sym reaches) b.0, b.1)
 
+-- a report is no way on
 reports_are_bound : (act : Act) (n : EventNo) → act ≡ Reported n → IsBound act
 reports_are_bound act n e = subst IsBound (sym e) (λ m. m, λ d. d)
 
+-- after a legal journal, cycles of deferrals were reported, and bind
 pub cycles_sound : (opening : State) → IsSite opening.fleet.site → IsGood opening → (journal : List Entry) → IsJournal opening journal → AreCyclesSound opening journal
 cycles_sound opening is_site good journal legal = record {
   reported = λ members stands. elim (last_deferral members journal) [

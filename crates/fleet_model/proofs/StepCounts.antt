@@ -1,4 +1,4 @@
--- How many steps a route has.
+-- A route of two cells has an event, and no route has more than seven for each of its cells.
 use Rattle.std.proofs.Common.{◌≡◌, ◌+◌, ◌*◌, ◌≤◌, not, List, [], ◌∷◌, map, length, arith}
 use Rattle.std.proofs.lemmas.List.{length-append, length-map}
 use Rattle.fleet_base.specs.declared.numbers.CellNo.{CellNo}

@@ -1,4 +1,4 @@
--- The longest tail of a robot's events that may be withdrawn.
+-- The removable tail of a robot's events may be withdrawn, and none that may be is longer.
 use Rattle.std.proofs.Common.{◌≡◌, ℕ, ◌+◌, ◌-◌, ◌≤◌, Bool, true, false, cond, not, ◌&&◌, ◌⊎◌, inl, inr, refl, sym, ap, ◌∙◌, subst, List, [], ◌∷◌, ◌++◌, map, length, take, drop, arith, length-append, length-drop, Option, Some, None}
 use Rattle.std.proofs.lemmas.Bool.{both_ways, cases_Bool, not-true, and_parts, and_from, not_from_false}
 use Rattle.std.proofs.lemmas.List.{append-nil, map-append, length-map, take-map, take-append-drop}
@@ -87,6 +87,7 @@ choose p f low (j ∷ js) n rise i h = go (cases_Bool (p (f j))) (λ k. choose p
         let c = ih (In_either i (λ e. absurd (both_ways (p (f j)) u (subst (λ k. p (f k) ≡ true) e h))) (λ k. k)) in
         record { place = c.place; found = subst (λ b. cond b (Some (f j)) (find p (map f js)) ≡ Some (f c.place)) (sym u) c.found; among = there c.among; passes = c.passes; first = c.first }
 
+-- unfinished events that nothing stands behind pass the test of a removable list
 pub removable_from : (m : Fleet) (tail : List Event) → ((f : Event) → In f tail → is_done m.finished f ≡ false) → ((e f : Event) → In e m.plan → In f tail → is_awaited m.site.groups e f ≡ false) → is_removable m tail ≡ true
 removable_from m tail undone unawaited =
     In_all (λ f. not (is_done m.finished f) && not (list_any (λ e. is_awaited m.site.groups e f) m.plan)) tail
@@ -99,13 +100,16 @@ removable_at m tail f i h =
     let a = and_parts (not (is_done m.finished f)) (not (list_any (λ e. is_awaited m.site.groups e f) m.plan)) (all_In (λ f. not (is_done m.finished f) && not (list_any (λ e. is_awaited m.site.groups e f) m.plan)) tail h i) in
     (not-true (is_done m.finished f) a.0, not-true (list_any (λ e. is_awaited m.site.groups e f) m.plan) a.1)
 
+-- what these events do
 abbrev kinds_of : List Event → List Kind
 kinds_of es = map (λ (e : Event). e.kind) es
 
 module _ (m : Fleet) (r : ℕ) where
+  -- the robot's planned events
   abbrev mine : List Event
   mine = own r m.plan
 
+  -- those from a place on
   abbrev from_place : ℕ → List Event
   from_place n = drop n mine
 

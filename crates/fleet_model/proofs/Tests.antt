@@ -1,4 +1,4 @@
--- What a test of a list's elements says of its members.
+-- What tests of a list's elements say of its members.
 use Rattle.std.proofs.Common.{◌≡◌, Bool, true, false, cond, ◌⊎◌, inl, inr, refl, sym, ap, ◌∙◌, List, [], ◌∷◌, Option, Some}
 use Rattle.std.proofs.lemmas.Bool.{both_ways, or_cases, or_left, or_right, and_parts, and_from, or_from, false_from_ne_true}
 use Rattle.std.specs.List.{list_any, list_all, find}

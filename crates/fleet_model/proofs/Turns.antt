@@ -45,14 +45,17 @@ own_same s r call entry h robot same =
 unless_told : {A E : Type 0} (refusals : List (Option E)) (s : State) (answer : A) (r : ℕ) (act : Act) (next : State) (entry : Entry) → (unless refusals s (accepted answer r act next)).entry ≡ Some entry → (entry.robot.0 ≡ r) × (entry.act ≡ act)
 unless_told refusals s answer r act next entry h = told r act entry (unless_accepted refusals s (accepted answer r act next) entry h).told
 
+-- the entry of an accepted proposal records the proposal
 proposal_told : (s : State) (r : ℕ) (cells : List CellNo) (block : Option Block) (entry : Entry) → (propose_outcome s r cells block).entry ≡ Some entry → (entry.robot.0 ≡ r) × (call_of entry.act ≡ Propose cells)
 proposal_told s r cells None entry h = let t = told r (Merged cells (first_of s)) entry h in (t.0, ap call_of t.1)
 proposal_told s r cells (Some block) entry h = let t = told r (Deferred cells block.cycle) entry h in (t.0, ap call_of t.1)
 
+-- where no value is there, none is first
 all_none_first : {A : Type 0} (os : List (Option A)) → AllNone os → first_some os ≡ None
 all_none_first [] h = refl
 all_none_first (o ∷ os) h = ap (λ x. first_some (x ∷ os)) h.0 ∙ all_none_first os h.1
 
+-- a step that no refusal fits is taken
 unless_none : {A E : Type 0} (refusals : List (Option E)) (s : State) (step : Step A E) → AllNone refusals → unless refusals s step ≡ step
 unless_none refusals s step h = ap (λ o. unless_refused o s step) (all_none_first refusals h)
 
@@ -114,13 +117,16 @@ own_call s r (Report n) entry is_site h =
     own_same s r (Report n) entry h t.0 (ap call_of t.1)
 own_call s r LookAt entry is_site h = absurd (no_entry s r (not (is_robot s r)) (record {}) entry h)
 
+-- the same for one refusal, or none
 refused_same : {A E : Type 0} (o : Option E) (s : State) (step : Step A E) (entry : Entry) → step.entry ≡ Some entry → (unless_refused o s step).entry ≡ None → (unless_refused o s step).after ≡ s
 refused_same (Some e) s step entry told h = refl
 refused_same None s step entry told h = absurd (cc)
 
+-- where a call that would add an entry adds none, the state stays
 unless_same : {A E : Type 0} (refusals : List (Option E)) (s : State) (step : Step A E) (entry : Entry) → step.entry ≡ Some entry → (unless refusals s step).entry ≡ None → (unless refusals s step).after ≡ s
 unless_same refusals s step entry told h = refused_same (first_some refusals) s step entry told h
 
+-- each outcome of a proposal adds an entry
 proposal_entry : (s : State) (r : ℕ) (cells : List CellNo) (block : Option Block) → (entry : Entry) × ((propose_outcome s r cells block).entry ≡ Some entry)
 proposal_entry s r cells None = (record { robot = record { 0 = r }; act = Merged cells (first_of s) }, refl)
 proposal_entry s r cells (Some block) = (record { robot = record { 0 = r }; act = Deferred cells block.cycle }, refl)

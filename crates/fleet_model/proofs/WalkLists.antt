@@ -1,4 +1,4 @@
--- The walks that a site lists: those of at most so many steps.
+-- The walks of at most so many steps are all listed, and nothing else is.
 use Rattle.std.proofs.Common.{◌≡◌, ℕ, zero, suc, ◌+◌, ◌≤◌, Bool, true, ◌==◌, refl, sym, ap, ◌∙◌, subst, List, [], ◌∷◌, map, length, Option, Some, arith, eq-eqb}
 use Rattle.std.proofs.lemmas.Bool.{eqb-true}
 use Rattle.std.specs.Prelude.{slice_get}

@@ -1,4 +1,4 @@
--- A withdrawal keeps a plan good.
+-- A withdrawal keeps a plan good, and leaves the ends of the others.
 use Rattle.std.proofs.Common.{◌≡◌, ◌≢◌, ℕ, Bool, true, false, not, ◌==◌, ◌⊎◌, inl, inr, refl, sym, ap, ◌∙◌, subst, List, [], ◌∷◌, ◌++◌, map, arith}
 use Rattle.std.proofs.lemmas.Bool.{both_ways, cases_Bool, cases_eq, not-false, not-true, not_from_false}
 use Rattle.std.proofs.lemmas.List.{append-nil}
@@ -22,12 +22,15 @@ use Rattle.fleet_model.proofs.Tails.{tail_is}
 use Rattle.fleet_model.proofs.Filters.{filter_swap, filter_all, filter_none}
 
 module _ (m : Fleet) (r : ℕ) (tail : List Event) (good : IsGoodPlan m) (removable : IsRemovableTail m r tail) where
+  -- the plan without the tail
   abbrev after : Fleet
   after = withdrawn m tail
 
+  -- the event is not of the tail
   abbrev stays : Event → Bool
   stays e = not (is_done tail e)
 
+  -- these events of the robot are the steps of one walk from its start
   abbrev Rests : List Event → Type 0
   Rests es = AreSteps m.site (slice_get m.starts r) (map (λ (e : Event). e.kind) es)
 
@@ -63,6 +66,7 @@ module _ (m : Fleet) (r : ℕ) (tail : List Event) (good : IsGoodPlan m) (remova
       rises : IsAscending 1 (removable.front ++ tail)
       rises = subst (λ es. IsAscending 1 es) removable.splits (IsAscending-own r 1 m.plan (from_one m good))
 
+  -- another robot's events stay
   own_still : (q : ℕ) → (r ≡ q → ⊥) → own q after.plan ≡ own q m.plan
   own_still q apart =
       filter_swap (λ (e : Event). e.robot.0 == q) stays m.plan
@@ -120,6 +124,7 @@ module _ (m : Fleet) (r : ℕ) (tail : List Event) (good : IsGoodPlan m) (remova
 pub withdrawn_good : (m : Fleet) (r : ℕ) → IsGoodPlan m → IsGoodPlan (withdrawn m (removable_tail m r))
 withdrawn_good m r good = tail_withdrawn_good m r (removable_tail m r) good (tail_is m r good)
 
+-- a withdrawal leaves the other robots their ends
 pub withdrawn_end : (m : Fleet) (r q : ℕ) → IsGoodPlan m → (r ≡ q → ⊥) → end_of (withdrawn m (removable_tail m r)) q ≡ end_of m q
 withdrawn_end m r q good apart = tail_withdrawn_end m r (removable_tail m r) good (tail_is m r good) q apart
 
