@@ -21,7 +21,7 @@ pub record IsKept (l : Inside) : Type 0 where
 abbrev pub places_of : List RobotNo → Inside
 places_of robots = record { len = length robots; places = numbers_of robots ++ replicate (64 - length robots) 0 }
 
-numbers_of-robots_of : (numbers : List ℕ) → numbers_of (robots_of numbers) ≡ numbers
+pub numbers_of-robots_of : (numbers : List ℕ) → numbers_of (robots_of numbers) ≡ numbers
 numbers_of-robots_of [] = refl
 numbers_of-robots_of (n ∷ ns) = ap (λ xs. n ∷ xs) (numbers_of-robots_of ns)
 

@@ -1,4 +1,4 @@
--- Conflicts go both ways, and no footprint names a claim twice.
+-- Conflicts go both ways, and no footprint has a claim twice.
 use Rattle.std.proofs.Common.{◌≡◌, ℕ, ◌+◌, ◌<◌, true, false, ◌==◌, ◌⊎◌, inl, inr, refl, sym, List, [], ◌∷◌, arith, eq-eqb, Option, Some, None}
 use Rattle.std.proofs.lemmas.Bool.{both_ways, cases_Bool, eqb-true, ne_eqb, and_parts, and_from, or_from}
 use Rattle.std.specs.Prelude.{slice_get}
@@ -7,7 +7,7 @@ use Rattle.fleet_base.specs.declared.numbers.ClaimGroup.{ClaimGroup}
 use Rattle.fleet_base.specs.declared.numbers.ClaimNo.{ClaimNo}
 use Rattle.fleet_base.specs.Lists.{RiseFrom}
 use Rattle.fleet_model.specs.Sites.{Site, exclude, in_conflict, footprint_of, has_claim, IsDistinct, IsSite}
-use Rattle.fleet_model.proofs.Alone.{same_claim}
+use Rattle.fleet_model.proofs.SameNumbers.{same_claim}
 
 -- two different claims exclude each other both ways
 exclude_symmetric : (o p : Option ClaimGroup) → exclude o p false ≡ true → exclude p o false ≡ true

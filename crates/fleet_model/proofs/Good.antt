@@ -7,7 +7,7 @@ use Rattle.fleet_base.specs.declared.numbers.ClaimGroup.{ClaimGroup}
 use Rattle.fleet_base.specs.declared.numbers.ClaimNo.{ClaimNo}
 use Rattle.fleet_base.specs.declared.numbers.Event.{Event}
 use Rattle.fleet_model.specs.Lists.{In, here, there}
-use Rattle.fleet_model.specs.Sites.{footprint_of, Site, IsSite, has_claim}
+use Rattle.fleet_model.specs.Sites.{footprint_of, IsSite, has_claim}
 use Rattle.fleet_model.specs.Replays.{AreSteps, Spot, IsStanding, CanDoAll, after_kinds, standing, opening, start_at}
 use Rattle.fleet_model.specs.Plans.{Fleet, kinds, is_done, clashes, is_awaited, IsBehind, IsReady, IsSafe, end_of}
 use Rattle.fleet_model.specs.Good.{IsAscending, IsGoodPlan}

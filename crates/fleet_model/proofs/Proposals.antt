@@ -4,7 +4,6 @@ use Rattle.std.specs.Prelude.{Ok}
 use Rattle.fleet_base.specs.declared.answers.Block.{Block}
 use Rattle.fleet_base.specs.declared.answers.ProposeRefused.{ProposeRefused}
 use Rattle.fleet_base.specs.declared.answers.Proposed.TheVariants as proposed
-use Rattle.fleet_base.specs.declared.entries.Act.{Act}
 use Rattle.fleet_base.specs.declared.entries.Act.TheVariants.{Merged, Deferred}
 use Rattle.fleet_base.specs.declared.numbers.CellNo.{CellNo}
 use Rattle.fleet_base.specs.declared.numbers.Span.{Span}
@@ -16,12 +15,14 @@ use Rattle.fleet_model.specs.Good.{IsGood}
 use Rattle.fleet_model.specs.Sound.{CanInsert}
 use Rattle.fleet_model.proofs.Soundness.{sound_entry}
 
+-- a proposal that answers with a merge adds an entry of it
 merged_entry : (s : State) (r : ℕ) (cells : List CellNo) (o : Option ProposeRefused) (block : Option Block) (span : Span) → (unless_refused o s (propose_outcome s r cells block)).answer ≡ Ok (proposed.Merged span)
     → (unless_refused o s (propose_outcome s r cells block)).entry ≡ Some (record { robot = record { 0 = r }; act = Merged cells (first_of s) })
 merged_entry s r cells (Some e) block span h = absurd (cc)
 merged_entry s r cells None None span h = refl
 merged_entry s r cells None (Some b) span h = absurd (cc)
 
+-- a proposal that answers with a deferral adds an entry of it
 deferred_entry : (s : State) (r : ℕ) (cells : List CellNo) (o : Option ProposeRefused) (block : Option Block) (by : Block) → (unless_refused o s (propose_outcome s r cells block)).answer ≡ Ok (proposed.Deferred by)
     → (b : Block) × ((unless_refused o s (propose_outcome s r cells block)).entry ≡ Some (record { robot = record { 0 = r }; act = Deferred cells b.cycle }))
 deferred_entry s r cells (Some e) block by h = absurd (cc)

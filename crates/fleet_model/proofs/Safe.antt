@@ -29,9 +29,11 @@ pub own_behind : (site : Site) (e f : Event) → f.robot.0 ≡ e.robot.0 → f.n
 own_behind site e f h l = inl (h, l)
 
 module _ (m : Fleet) (good : IsGoodPlan m) (able : (r : ℕ) → CanDoAll m.site (opening m.site m.starts r) (kinds r m.plan)) where
+  -- where the robots start
   abbrev start : Spots
   start = opening m.site m.starts
 
+  -- what is done is of the plan, with all that it comes behind
   abbrev Kept : List Event → Type 0
   Kept done = orders.IsKept (IsBehind m.site.groups) m.plan done
 

@@ -1,38 +1,38 @@
 -- Every legal journal is sound.
-use Rattle.std.proofs.Common.{◌≡◌, ◌≢◌, ℕ, true, false, ◌==◌, ◌&&◌, ◌⊎◌, inl, inr, refl, sym, ap, ◌∙◌, subst, List, [], ◌∷◌, ◌++◌, length, Some, map, append_assoc}
+use Rattle.std.proofs.Common.{◌≡◌, ◌≢◌, ℕ, true, false, ◌==◌, ◌&&◌, ◌⊎◌, inl, inr, refl, sym, ap, ◌∙◌, subst, List, [], ◌∷◌, ◌++◌, length, Some}
 use Rattle.std.proofs.lemmas.Bool.{cases_Bool, both_ways, eqb-true, and_parts}
-use Rattle.std.proofs.lemmas.List.{append-nil}
-use Rattle.std.specs.Prelude.{◌↔◌}
 use Rattle.std.specs.List.{list_any}
 use Rattle.fleet_base.specs.Lists.{robots_of, numbers_of}
 use Rattle.fleet_base.specs.declared.entries.Act.{Act}
-use Rattle.fleet_base.specs.declared.entries.Act.TheVariants.{Merged, Deferred, Retried, Canceled, Withdrawn, Replanned, Reported}
+use Rattle.fleet_base.specs.declared.entries.Act.TheVariants.{Merged, Deferred, Canceled, Withdrawn, Reported}
 use Rattle.fleet_base.specs.declared.entries.Entry.{Entry}
 use Rattle.fleet_base.specs.declared.numbers.CellNo.{CellNo}
-use Rattle.fleet_base.specs.declared.numbers.Event.{Event}
 use Rattle.fleet_base.specs.declared.numbers.EventNo.{EventNo}
 use Rattle.fleet_base.specs.declared.numbers.RobotNo.{RobotNo}
-use Rattle.fleet_model.specs.Lists.{In, here, there}
+use Rattle.fleet_model.specs.Lists.{In}
 use Rattle.fleet_model.specs.Sites.{IsSite}
-use Rattle.fleet_model.specs.Plans.{Fleet, IsAllowed, merged}
+use Rattle.fleet_model.specs.Plans.{IsAllowed}
 use Rattle.fleet_model.specs.Cycles.{are_distinct, leads, is_cycle}
 use Rattle.fleet_model.specs.States.{State, is_deferred_on, cycle_of}
 use Rattle.fleet_model.specs.Calls.{deferring}
 use Rattle.fleet_model.specs.Good.{IsGood}
 use Rattle.fleet_model.specs.Journals.{turn_at, IsJournal, state_after}
-use Rattle.fleet_model.specs.Sound.{IsCycle, IsMerge, IsChange, IsDeferral, IsTrueTo, NoneDefers, CanInsert, IsSoundState, IsSoundEntry, IsReported, IsBound, AreCyclesSound, IsSoundJournal}
-use Rattle.fleet_model.proofs.Anys.{any_In, In_any}
+use Rattle.fleet_model.specs.Sound.{IsCycle, IsMerge, IsDeferral, IsTrueTo, NoneDefers, IsSoundState, IsSoundEntry, IsBound, AreCyclesSound, IsSoundJournal}
+use Rattle.fleet_model.proofs.Tests.{any_In}
 use Rattle.fleet_model.proofs.Lists.{In_either}
 use Rattle.fleet_model.proofs.Good.{good_safe, ready_event}
 use Rattle.fleet_model.proofs.Merge.{allowed_still}
 use Rattle.fleet_model.proofs.Insert.{blocked_unsafe}
-use Rattle.fleet_model.proofs.Least.{unblocked_safe}
-use Rattle.fleet_model.proofs.Rotations.{absent_out, least_is_cycle, cycle_of_some, deferrals_turn}
+use Rattle.fleet_model.proofs.LeastMerge.{unblocked_safe}
+use Rattle.fleet_model.proofs.Distinct.{absent_out}
+use Rattle.fleet_model.proofs.Rotations.{least_is_cycle, cycle_of_some, deferrals_turn}
 use Rattle.fleet_model.proofs.Deferrals.{cycle_of_least}
-use Rattle.fleet_model.proofs.Accepted.{Change, Grew, Kept, Dropped, Cut, Did, changed, CanChange, Accepts, Tells}
-use Rattle.fleet_model.proofs.Kept.{accepts_at, turn_good, journal_good}
+use Rattle.fleet_model.proofs.GoodStates.{accepts_at, turn_good, journal_good}
 use Rattle.fleet_model.proofs.Bindings.{cycle_binds, cycle_stood}
+use Rattle.fleet_model.proofs.Changes.{Change, Grew, Kept, Dropped, Cut, Did, changed, CanChange, Accepts, Tells}
+use Rattle.fleet_base.specs.RobotLists.{numbers_of-robots_of}
 
+-- a good state is sound
 pub sound_state : (s : State) → IsSite s.fleet.site → IsGood s → IsSoundState s
 sound_state s is_site good = record {
   safe = good_safe s.fleet is_site good.plan;
@@ -43,41 +43,15 @@ sound_state s is_site good = record {
 merge_grew : (s : State) (r : ℕ) (c : Change) (a : Act) → Tells s r c a → IsMerge a → (route : List CellNo) × (c ≡ Grew route)
 merge_grew s r (Grew route) a t m = (route, refl)
 merge_grew s r (Kept route) (Deferred cells cycle) t m = absurd m
-merge_grew s r (Kept route) (Merged cells first) t m = absurd t
-merge_grew s r (Kept route) (Retried first) t m = absurd t
-merge_grew s r (Kept route) Canceled t m = absurd t
-merge_grew s r (Kept route) (Withdrawn removed end) t m = absurd t
-merge_grew s r (Kept route) (Replanned cells first) t m = absurd t
-merge_grew s r (Kept route) (Reported event) t m = absurd t
 merge_grew s r Dropped Canceled t m = absurd m
-merge_grew s r Dropped (Merged cells first) t m = absurd t
-merge_grew s r Dropped (Deferred cells cycle) t m = absurd t
-merge_grew s r Dropped (Retried first) t m = absurd t
-merge_grew s r Dropped (Withdrawn removed end) t m = absurd t
-merge_grew s r Dropped (Replanned cells first) t m = absurd t
-merge_grew s r Dropped (Reported event) t m = absurd t
 merge_grew s r Cut (Withdrawn removed end) t m = absurd m
-merge_grew s r Cut (Merged cells first) t m = absurd t
-merge_grew s r Cut (Deferred cells cycle) t m = absurd t
-merge_grew s r Cut (Retried first) t m = absurd t
-merge_grew s r Cut Canceled t m = absurd t
-merge_grew s r Cut (Replanned cells first) t m = absurd t
-merge_grew s r Cut (Reported event) t m = absurd t
 merge_grew s r (Did e) (Reported event) t m = absurd m
-merge_grew s r (Did e) (Merged cells first) t m = absurd t
-merge_grew s r (Did e) (Deferred cells cycle) t m = absurd t
-merge_grew s r (Did e) (Retried first) t m = absurd t
-merge_grew s r (Did e) Canceled t m = absurd t
-merge_grew s r (Did e) (Withdrawn removed end) t m = absurd t
-merge_grew s r (Did e) (Replanned cells first) t m = absurd t
+merge_grew s r c a t m = absurd t
 
 -- an entry Merged put its route into the plan
 merged_grew : (s : State) (r : ℕ) (c : Change) (cells : List CellNo) (first : EventNo) → CanChange s r c → Tells s r c (Merged cells first) → CanChange s r (Grew cells)
 merged_grew s r (Grew route) cells first can t = subst (λ x. CanChange s r (Grew x)) t.0 can
-merged_grew s r (Kept route) cells first can t = absurd t
-merged_grew s r Dropped cells first can t = absurd t
-merged_grew s r Cut cells first can t = absurd t
-merged_grew s r (Did e) cells first can t = absurd t
+merged_grew s r c cells first can t = absurd t
 
 -- an entry Deferred kept its route, and names the cycle in the state behind it
 record IsKeptAs (s : State) (r : ℕ) (c : Change) (cells : List CellNo) (cycle : List RobotNo) : Type 0 where
@@ -85,24 +59,20 @@ record IsKeptAs (s : State) (r : ℕ) (c : Change) (cells : List CellNo) (cycle 
   is : c ≡ Kept cells
   names : cycle ≡ robots_of (cycle_of (deferring s r cells) r)
 
+-- an entry Deferred kept its route as pending, and names the cycle through its robot
 deferred_kept : (s : State) (r : ℕ) (c : Change) (cells : List CellNo) (cycle : List RobotNo) → CanChange s r c → Tells s r c (Deferred cells cycle) → IsKeptAs s r c cells cycle
 deferred_kept s r (Kept route) cells cycle can t = record {
   can = subst (λ x. CanChange s r (Kept x)) t.0 can;
   is = ap (λ x. Kept x) t.0;
   names = t.1 ∙ ap (λ x. robots_of (cycle_of (deferring s r x) r)) t.0;
 }
-deferred_kept s r (Grew route) cells cycle can t = absurd t
-deferred_kept s r Dropped cells cycle can t = absurd t
-deferred_kept s r Cut cells cycle can t = absurd t
-deferred_kept s r (Did e) cells cycle can t = absurd t
+deferred_kept s r c cells cycle can t = absurd t
 
-numbers_of-robots_of : (numbers : List ℕ) → numbers_of (robots_of numbers) ≡ numbers
-numbers_of-robots_of [] = refl
-numbers_of-robots_of (n ∷ ns) = ap (λ xs. n ∷ xs) (numbers_of-robots_of ns)
-
+-- where some robots are listed, some numbers are
 some_robots : (numbers : List ℕ) → robots_of numbers ≢ [] → numbers ≢ []
 some_robots numbers n e = n (ap robots_of e)
 
+-- where some numbers are listed, some robots are
 some_numbers : (numbers : List ℕ) → numbers ≢ [] → robots_of numbers ≢ []
 some_numbers [] n e = n refl
 some_numbers (x ∷ xs) n e = cc
@@ -111,21 +81,26 @@ some_numbers (x ∷ xs) n e = cc
 cycle_of_stands : (s : State) (r : ℕ) → length s.pending ≡ length s.fleet.starts → cycle_of s r ≢ [] → IsCycle s (cycle_of s r)
 cycle_of_stands s r places some = at (cycle_of s r) (least_is_cycle (is_deferred_on s) r (cycle_of s r) (cycle_of_least s r places) some)
   where
+    -- the state in front of it
     at : (xs : List ℕ) → is_cycle (is_deferred_on s) r xs ≡ true → IsCycle s xs
     at [] h = absurd (both_ways false refl h)
     at (x ∷ xs) h = let same : x ≡ r = eqb-true x r (and_parts (x == r) (are_distinct (x ∷ xs) && leads (is_deferred_on s) r (x ∷ xs)) h).0 in subst (λ y. is_cycle (is_deferred_on s) y (x ∷ xs) ≡ true) (sym same) h
 
 module _ (s : State) (entry : Entry) (is_site : IsSite s.fleet.site) (good : IsGood s) (told : (turn_at s entry).entry ≡ Some entry) where
+  -- the robot of the entry
   abbrev robot : ℕ
   robot = entry.robot.0
 
+  -- what the call of the entry did
   known : Accepts s entry.robot.0 entry (turn_at s entry).after
   known = accepts_at s entry is_site good told
 
+  -- what the entry tells, where its act is known
   tells_as : (a : Act) → entry.act ≡ a → Tells s entry.robot.0 known.change a
   unfolding known
   tells_as a e = subst (λ x. Tells s entry.robot.0 known.change x) e known.tells
 
+  -- what an entry Deferred tells
   kept_as : (route : List CellNo) (cycle : List RobotNo) → entry.act ≡ Deferred route cycle → IsKeptAs s entry.robot.0 known.change route cycle
   kept_as route cycle e = deferred_kept s entry.robot.0 known.change route cycle known.can (tells_as (Deferred route cycle) e)
 
@@ -135,9 +110,11 @@ module _ (s : State) (entry : Entry) (is_site : IsSite s.fleet.site) (good : IsG
       let k = kept_as route cycle e in
       k.names ∙ ap (λ n. robots_of (cycle_of n entry.robot.0)) (sym (known.after_is ∙ ap (λ c. changed s entry.robot.0 c) k.is))
 
+  -- behind the entry each robot has its place for a pending route
   places_after : length (turn_at s entry).after.pending ≡ length (turn_at s entry).after.fleet.starts
   places_after = (turn_good s entry is_site good told).0.places
 
+  -- an entry of a legal journal is sound at its state
   pub sound_entry : IsSoundEntry s entry
   sound_entry = record {
     allows = λ m order allowed.
@@ -177,23 +154,21 @@ record LastDeferral (members : List ℕ) (journal : List Entry) : Type 0 where
   member : In robot.0 members
   last : NoneDefers members behind
 
+-- where one more entry is no deferral of a member, none of the entries is one
 none_more : (members : List ℕ) (entry : Entry) (entries : List Entry) → (In entry.robot.0 members → IsDeferral entry.act → ⊥) → NoneDefers members entries → NoneDefers members (entry ∷ entries)
 none_more members entry entries first rest other i m d =
     In_either i (λ e. first (subst (λ (x : Entry). In x.robot.0 members) e m) (subst (λ (x : Entry). IsDeferral x.act) e d)) (λ j. rest other j m d)
 
+-- in front of entries that have no deferral of a member, one more entry is the last such or none is
 last_first : (members : List ℕ) (robot : RobotNo) (act : Act) (entries : List Entry) → NoneDefers members entries → (list_any (λ q. q == robot.0) members ≡ true) ⊎ (list_any (λ q. q == robot.0) members ≡ false)
     → NoneDefers members (record { robot = robot; act = act } ∷ entries) ⊎ LastDeferral members (record { robot = robot; act = act } ∷ entries)
 last_first members robot (Deferred route cycle) entries none (inl t) =
     let m = any_In (λ q. q == robot.0) members t in
     inr (record { before = []; robot = robot; route = route; cycle = cycle; behind = entries; splits = refl; member = subst (λ x. In x members) (eqb-true m.0 robot.0 m.2) m.1; last = none })
 last_first members robot act entries none (inr f) = inl (none_more members (record { robot = robot; act = act }) entries (λ m d. absent_out robot.0 members f m) none)
-last_first members robot (Merged route first) entries none t = inl (none_more members (record { robot = robot; act = Merged route first }) entries (λ m d. d) none)
-last_first members robot (Retried first) entries none t = inl (none_more members (record { robot = robot; act = Retried first }) entries (λ m d. d) none)
-last_first members robot Canceled entries none t = inl (none_more members (record { robot = robot; act = Canceled }) entries (λ m d. d) none)
-last_first members robot (Withdrawn removed end) entries none t = inl (none_more members (record { robot = robot; act = Withdrawn removed end }) entries (λ m d. d) none)
-last_first members robot (Replanned route first) entries none t = inl (none_more members (record { robot = robot; act = Replanned route first }) entries (λ m d. d) none)
-last_first members robot (Reported event) entries none t = inl (none_more members (record { robot = robot; act = Reported event }) entries (λ m d. d) none)
+last_first members robot act entries none t = inl (none_more members (record { robot = robot; act = act }) entries (λ m d. d) none)
 
+-- a journal has a last deferral of a member, or none
 last_deferral : (members : List ℕ) (journal : List Entry) → NoneDefers members journal ⊎ LastDeferral members journal
 last_deferral members [] = inl (λ entry i. elim i [ ])
 last_deferral members (entry ∷ entries) =
@@ -205,21 +180,27 @@ last_deferral members (entry ∷ entries) =
 -- the state in front of a deferral, and the cycle that stands behind it
 module _ (opening : State) (is_site : IsSite opening.fleet.site) (good : IsGood opening) (before : List Entry) (robot : RobotNo) (route : List CellNo) (cycle : List RobotNo) (behind : List Entry)
     (legal : IsJournal opening (before ++ record { robot = robot; act = Deferred route cycle } ∷ behind)) where
+  -- the entry of the deferral
   abbrev deferral : Entry
   deferral = record { robot = robot; act = Deferred route cycle }
 
+  -- the state in front of it
   abbrev at : State
   at = state_after opening before
 
+  -- the state behind it
   abbrev later : State
   later = (turn_at at deferral).after
 
+  -- the parts of the journal are journals
   parts : IsJournal opening before × IsJournal at (deferral ∷ behind)
   parts = journal_parts opening before (deferral ∷ behind) legal
 
+  -- the state in front of it is good
   good_at : IsGood at × IsSite at.fleet.site
   good_at = journal_good opening before is_site good parts.0
 
+  -- the state behind it is good
   good_later : IsGood later × IsSite later.fleet.site
   good_later = turn_good at deferral good_at.1 good_at.0 parts.1.0
 
@@ -236,6 +217,7 @@ module _ (opening : State) (is_site : IsSite opening.fleet.site) (good : IsGood 
       let turned = deferrals_turn later members robot.0 stood member in
       some_numbers (cycle_of later robot.0) ((cycle_of_some later robot.0 good_later.0.places).1 (turned.0, turned.1)) (sym names_later ∙ empty)
 
+  -- the cycle that the deferral names stands behind it
   stands_later : cycle ≢ [] → IsCycle later (numbers_of cycle)
   stands_later some =
       let is : numbers_of cycle ≡ cycle_of later robot.0 = ap numbers_of names_later ∙ numbers_of-robots_of (cycle_of later robot.0) in
@@ -248,9 +230,11 @@ module _ (opening : State) (is_site : IsSite opening.fleet.site) (good : IsGood 
       let b = cycle_binds later (numbers_of cycle) behind good_later.1 good_later.0 (stands_later some) parts.1.1 true_to in
       (subst (λ n. IsCycle n (numbers_of cycle)) (sym reaches) b.0, b.1)
 
+-- a report is no way on
 reports_are_bound : (act : Act) (n : EventNo) → act ≡ Reported n → IsBound act
 reports_are_bound act n e = subst IsBound (sym e) (λ m. m, λ d. d)
 
+-- after a legal journal, cycles of deferrals were reported, and bind
 pub cycles_sound : (opening : State) → IsSite opening.fleet.site → IsGood opening → (journal : List Entry) → IsJournal opening journal → AreCyclesSound opening journal
 cycles_sound opening is_site good journal legal = record {
   reported = λ members stands. elim (last_deferral members journal) [

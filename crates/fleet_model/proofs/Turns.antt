@@ -1,24 +1,18 @@
 -- The accepted calls of a list are a journal, and the call that an entry records gives the entry.
-use Rattle.std.proofs.Common.{◌≡◌, ℕ, Bool, true, false, not, ◌==◌, ◌⊎◌, inl, inr, refl, sym, ap, ◌∙◌, subst, List, [], ◌∷◌, ◌++◌, ◌+◌, length, Option, Some, None}
+use Rattle.std.proofs.Common.{◌≡◌, ℕ, Bool, true, false, not, ◌==◌, refl, sym, ap, ◌∙◌, subst, List, [], ◌∷◌, ◌++◌, ◌+◌, length, Option, Some, None}
 use Rattle.std.proofs.lemmas.Bool.{both_ways, and_parts, or_from, eqb-true, false_from_ne_true}
-use Rattle.std.proofs.lemmas.Option.{same_Some}
-use Rattle.std.specs.Prelude.{Ok, Err}
+use Rattle.std.specs.Prelude.{Ok}
 use Rattle.std.specs.List.{list_all}
-use Rattle.std.specs.Option.{is_none, option_to_list, unwrap_or}
+use Rattle.std.specs.Option.{option_to_list, unwrap_or}
 use Rattle.fleet_base.specs.declared.answers.Block.{Block}
-use Rattle.fleet_base.specs.declared.answers.ProposeRefused.{ProposeRefused}
 use Rattle.fleet_base.specs.declared.answers.Look.{Look}
 use Rattle.fleet_base.specs.declared.answers.UnknownRobot.{UnknownRobot}
-use Rattle.fleet_base.specs.declared.answers.Proposed.{Proposed}
-use Rattle.fleet_base.specs.declared.answers.Proposed.TheVariants as proposed
 use Rattle.fleet_base.specs.declared.answers.ReplanRefused.{ReplanRefused}
-use Rattle.fleet_base.specs.declared.answers.ReplanRefused.TheVariants as replan_refused
 use Rattle.fleet_base.specs.declared.answers.Withdrawn.{Withdrawn as Removed}
 use Rattle.fleet_base.specs.declared.entries.Act.{Act}
 use Rattle.fleet_base.specs.declared.entries.Act.TheVariants.{Merged, Deferred, Retried, Canceled, Withdrawn, Replanned, Reported}
 use Rattle.fleet_base.specs.declared.entries.Entry.{Entry}
 use Rattle.fleet_base.specs.declared.numbers.CellNo.{CellNo}
-use Rattle.fleet_base.specs.declared.numbers.EventNo.{EventNo}
 use Rattle.fleet_base.specs.declared.numbers.Span.{Span}
 use Rattle.fleet_model.specs.Lists.{when, first_some}
 use Rattle.fleet_model.specs.Sites.{IsSite, last_cell}
@@ -26,15 +20,15 @@ use Rattle.fleet_model.specs.Plans.{end_of, removable_tail, withdrawn}
 use Rattle.fleet_model.specs.Routes.{leads_to}
 use Rattle.fleet_model.specs.Deferral.{is_shut_to}
 use Rattle.fleet_model.specs.States.{State, is_robot, pending_route, block_of}
-use Rattle.fleet_model.specs.Calls.{Step, unless, unless_refused, propose_refusals, propose_outcome, propose, retry_refusals, cancel_refusals, withdraw_refusals, retry, cancel, withdraw, replan, replan_refusals, report, report_refusals, next_event, reported, accepted, deferring, with_route, moved, span_of, first_of, detour_of, has_cell, Call, Propose, Retry, Cancel, Withdraw, Replan, Report, LookAt, look_of, turn, entries_of, after_calls}
+use Rattle.fleet_model.specs.Calls.{Step, unless, unless_refused, propose_refusals, propose_outcome, retry_refusals, cancel_refusals, withdraw_refusals, replan, replan_refusals, report_refusals, next_event, reported, accepted, deferring, with_route, moved, span_of, first_of, detour_of, has_cell, Call, Propose, Retry, Cancel, Withdraw, Replan, Report, LookAt, look_of, turn, entries_of, after_calls}
 use Rattle.fleet_model.specs.Good.{IsGood}
 use Rattle.fleet_model.specs.Journals.{last_of, call_of, turn_at, IsJournal, state_after}
-use Rattle.fleet_model.specs.Sound.{CanInsert}
+use Rattle.fleet_model.proofs.Options.{when_none}
+use Rattle.fleet_model.proofs.SameNumbers.{same_cell}
 use Rattle.fleet_model.proofs.Detours.{detour_least, detour_to_last}
-use Rattle.fleet_model.proofs.Insert.{blocked_unsafe}
-use Rattle.fleet_model.proofs.Least.{unblocked_safe}
-use Rattle.fleet_model.proofs.Accepted.{AllNone, IsAccepted, unless_accepted, when_none, some_of, told, no_entry, accepts, accepts_propose, Accepts, Change, Grew, Kept, Dropped, Cut, Did, CanChange, Tells, same_cell, nothing}
-use Rattle.fleet_model.proofs.Kept.{turn_good}
+use Rattle.fleet_model.proofs.Accepted.{AllNone, unless_accepted, told, no_entry, nothing, IsReplanned, replanned}
+use Rattle.fleet_model.proofs.GoodStates.{turn_good}
+use Rattle.fleet_base.specs.declared.answers.ReplanRefused.TheVariants as replan_refused
 
 -- the entry's own call gives the entry and the same state
 pub record IsOwnCall (s : State) (r : ℕ) (call : Call) (entry : Entry) : Type 0 where
@@ -51,14 +45,17 @@ own_same s r call entry h robot same =
 unless_told : {A E : Type 0} (refusals : List (Option E)) (s : State) (answer : A) (r : ℕ) (act : Act) (next : State) (entry : Entry) → (unless refusals s (accepted answer r act next)).entry ≡ Some entry → (entry.robot.0 ≡ r) × (entry.act ≡ act)
 unless_told refusals s answer r act next entry h = told r act entry (unless_accepted refusals s (accepted answer r act next) entry h).told
 
+-- the entry of an accepted proposal records the proposal
 proposal_told : (s : State) (r : ℕ) (cells : List CellNo) (block : Option Block) (entry : Entry) → (propose_outcome s r cells block).entry ≡ Some entry → (entry.robot.0 ≡ r) × (call_of entry.act ≡ Propose cells)
 proposal_told s r cells None entry h = let t = told r (Merged cells (first_of s)) entry h in (t.0, ap call_of t.1)
 proposal_told s r cells (Some block) entry h = let t = told r (Deferred cells block.cycle) entry h in (t.0, ap call_of t.1)
 
+-- where no value is there, none is first
 all_none_first : {A : Type 0} (os : List (Option A)) → AllNone os → first_some os ≡ None
 all_none_first [] h = refl
 all_none_first (o ∷ os) h = ap (λ x. first_some (x ∷ os)) h.0 ∙ all_none_first os h.1
 
+-- a step that no refusal fits is taken
 unless_none : {A E : Type 0} (refusals : List (Option E)) (s : State) (step : Step A E) → AllNone refusals → unless refusals s step ≡ step
 unless_none refusals s step h = ap (λ o. unless_refused o s step) (all_none_first refusals h)
 
@@ -68,61 +65,34 @@ last_away goal avoid [] end leads away = refl
 last_away goal avoid (a ∷ bs) end leads away =
     or_from ((last_cell a bs).0 == end.0) false
     (false_from_ne_true ((last_cell a bs).0 == end.0) (λ t.
-        let same : last_cell a bs ≡ end = same_cell (last_cell a bs) end (eqb-true (last_cell a bs).0 end.0 t) in
-        both_ways (goal end) away (subst (λ c. goal c ≡ true) same (and_parts (goal (last_cell a bs)) (list_all (λ b. not (avoid b)) (a ∷ bs)) leads).0)))
+    let same : last_cell a bs ≡ end = same_cell (last_cell a bs) end (eqb-true (last_cell a bs).0 end.0 t) in
+    both_ways (goal end) away (subst (λ c. goal c ≡ true) same (and_parts (goal (last_cell a bs)) (list_all (λ b. not (avoid b)) (a ∷ bs)) leads).0)))
     refl
 
 -- a replan to the last cell of a detour gives what the replan gave that found it
 replan_to_last : (s : State) (r : ℕ) (goal : CellNo → Bool) (entry : Entry) → IsSite s.fleet.site → (replan s r goal).entry ≡ Some entry
     → (route : List CellNo) × (entry.robot.0 ≡ r) × (entry.act ≡ Replanned route (first_of s)) × (replan s r (has_cell (last_of route)) ≡ replan s r goal)
-replan_to_last s r goal entry is_site h = (route, t.0, t.1, there_is ∙ sym is.is)
+replan_to_last s r goal entry is_site h = (p.route, p.robot, p.act, there_is ∙ sym p.is)
   where
-    detour : Option (List CellNo)
-    detour = detour_of s.fleet r goal
+    p : IsReplanned s r goal entry
+    p = replanned s r goal entry h
 
-    route : List CellNo
-    route = unwrap_or (detour_of s.fleet r goal) []
+    last : CellNo → Bool
+    last = has_cell (last_of p.route)
 
     done : List CellNo → Step Span ReplanRefused
     done way = accepted (span_of s way) r (Replanned way (first_of s)) (with_route s r way)
 
-    is : IsAccepted (replan_refusals s r goal (detour_of s.fleet r goal)) s (accepted (span_of s route) r (Replanned route (first_of s)) (with_route s r route)) entry
-    is = unless_accepted (replan_refusals s r goal (detour_of s.fleet r goal)) s (accepted (span_of s route) r (Replanned route (first_of s)) (with_route s r route)) entry h
+    away : last (end_of s.fleet r) ≡ false
+    away = last_away goal (is_shut_to s.fleet r) p.route (end_of s.fleet r) (detour_least s.fleet r goal is_site p.route p.found).leads (when_none (goal (end_of s.fleet r)) replan_refused.AtGoal p.none.1.1.0)
 
-    t : (entry.robot.0 ≡ r) × (entry.act ≡ Replanned route (first_of s))
-    t = told r (Replanned route (first_of s)) entry is.told
+    none_there : AllNone (replan_refusals s r last (Some p.route))
+    none_there = (p.none.0, (p.none.1.0, (ap (λ b. when b replan_refused.AtGoal) away, p.none.1.1.1)))
 
-    found : (way : List CellNo) × (detour_of s.fleet r goal ≡ Some way)
-    found = some_of (detour_of s.fleet r goal) (when_none (is_none (detour_of s.fleet r goal)) replan_refused.NoDetour is.none.1.1.1.0)
-
-    is_found : detour_of s.fleet r goal ≡ Some route
-    is_found = found.1 ∙ ap (λ x. Some x) (sym (ap (λ o. unwrap_or o []) found.1))
-
-    last : CellNo → Bool
-    last = has_cell (last_of route)
-
-    to_last : detour_of s.fleet r (has_cell (last_of route)) ≡ Some route
-    to_last = detour_to_last s.fleet r goal is_site route is_found
-
-    away : has_cell (last_of route) (end_of s.fleet r) ≡ false
-    away = last_away goal (is_shut_to s.fleet r) route (end_of s.fleet r) (detour_least s.fleet r goal is_site route is_found).leads (when_none (goal (end_of s.fleet r)) replan_refused.AtGoal is.none.1.1.0)
-
-    none_there : AllNone (replan_refusals s r (has_cell (last_of route)) (Some route))
-    none_there = (
-      is.none.0,
-      (
-        is.none.1.0,
-        (
-          ap (λ b. when b replan_refused.AtGoal) away,
-          (refl, (is.none.1.1.1.1.0, tt)),
-        ),
-      ),
-    )
-
-    there_is : replan s r (has_cell (last_of route)) ≡ accepted (span_of s route) r (Replanned route (first_of s)) (with_route s r route)
+    there_is : replan s r last ≡ done p.route
     there_is =
-        ap (λ o. unless (replan_refusals s r (has_cell (last_of route)) o) s (done (unwrap_or o []))) to_last
-        ∙ unless_none (replan_refusals s r (has_cell (last_of route)) (Some route)) s (done route) none_there
+        ap (λ o. unless (replan_refusals s r last o) s (done (unwrap_or o []))) (detour_to_last s.fleet r goal is_site p.route p.found)
+        ∙ unless_none (replan_refusals s r last (Some p.route)) s (done p.route) none_there
 
 -- the call that an accepted call's entry records gives the entry, and leaves the same state
 pub own_call : (s : State) (r : ℕ) (call : Call) (entry : Entry) → IsSite s.fleet.site → (turn s r call).entry ≡ Some entry → IsOwnCall s r call entry
@@ -147,13 +117,16 @@ own_call s r (Report n) entry is_site h =
     own_same s r (Report n) entry h t.0 (ap call_of t.1)
 own_call s r LookAt entry is_site h = absurd (no_entry s r (not (is_robot s r)) (record {}) entry h)
 
+-- the same for one refusal, or none
 refused_same : {A E : Type 0} (o : Option E) (s : State) (step : Step A E) (entry : Entry) → step.entry ≡ Some entry → (unless_refused o s step).entry ≡ None → (unless_refused o s step).after ≡ s
 refused_same (Some e) s step entry told h = refl
 refused_same None s step entry told h = absurd (cc)
 
+-- where a call that would add an entry adds none, the state stays
 unless_same : {A E : Type 0} (refusals : List (Option E)) (s : State) (step : Step A E) (entry : Entry) → step.entry ≡ Some entry → (unless refusals s step).entry ≡ None → (unless refusals s step).after ≡ s
 unless_same refusals s step entry told h = refused_same (first_some refusals) s step entry told h
 
+-- each outcome of a proposal adds an entry
 proposal_entry : (s : State) (r : ℕ) (cells : List CellNo) (block : Option Block) → (entry : Entry) × ((propose_outcome s r cells block).entry ≡ Some entry)
 proposal_entry s r cells None = (record { robot = record { 0 = r }; act = Merged cells (first_of s) }, refl)
 proposal_entry s r cells (Some block) = (record { robot = record { 0 = r }; act = Deferred cells block.cycle }, refl)

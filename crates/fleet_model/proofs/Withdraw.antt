@@ -1,4 +1,4 @@
--- A withdrawal keeps a plan good.
+-- A withdrawal keeps a plan good, and leaves the ends of the others.
 use Rattle.std.proofs.Common.{◌≡◌, ◌≢◌, ℕ, Bool, true, false, not, ◌==◌, ◌⊎◌, inl, inr, refl, sym, ap, ◌∙◌, subst, List, [], ◌∷◌, ◌++◌, map, arith}
 use Rattle.std.proofs.lemmas.Bool.{both_ways, cases_Bool, cases_eq, not-false, not-true, not_from_false}
 use Rattle.std.proofs.lemmas.List.{append-nil}
@@ -12,29 +12,25 @@ use Rattle.fleet_model.specs.Sites.{in_conflict}
 use Rattle.fleet_model.specs.Replays.{AreSteps}
 use Rattle.fleet_model.specs.Plans.{Fleet, own, kinds, end_of, is_done, IsReady, IsBehind, IsOrder, withdrawn, removable_tail, IsRemovableTail}
 use Rattle.fleet_model.specs.Good.{IsAscending, IsGoodPlan, Opens, Closes}
-use Rattle.fleet_model.proofs.Lists.{In-append_right, In-filter, In_unfilter, filter_in, filter_out}
+use Rattle.fleet_model.proofs.Lists.{In-append_right, In-filter, In_unfilter}
 use Rattle.fleet_model.proofs.Numbers.{IsAscending-filter, IsAscending-own, ascending_apart, one_event, own_In, done_in, done_event, done_none, from_one}
 use Rattle.fleet_model.proofs.Claims.{conflict_symmetric}
 use Rattle.fleet_model.proofs.Safe.{awaited_from}
 use Rattle.fleet_model.proofs.Ends.{end_same}
-use Rattle.fleet_model.proofs.Further.{filter_swap, ready_stays}
+use Rattle.fleet_model.proofs.Readiness.{ready_stays}
 use Rattle.fleet_model.proofs.Tails.{tail_is}
-
-pub filter_all : (p : Event → Bool) (es : List Event) → ((e : Event) → In e es → p e ≡ true) → filter p es ≡ es
-filter_all p [] h = refl
-filter_all p (e ∷ es) h = filter_in p e es (h e (here refl)) ∙ ap (λ zs. e ∷ zs) (filter_all p es (λ x i. h x (there i)))
-
-pub filter_none : (p : Event → Bool) (es : List Event) → ((e : Event) → In e es → p e ≡ false) → filter p es ≡ []
-filter_none p [] h = refl
-filter_none p (e ∷ es) h = filter_out p e es (h e (here refl)) ∙ filter_none p es (λ x i. h x (there i))
+use Rattle.fleet_model.proofs.Filters.{filter_swap, filter_all, filter_none}
 
 module _ (m : Fleet) (r : ℕ) (tail : List Event) (good : IsGoodPlan m) (removable : IsRemovableTail m r tail) where
+  -- the plan without the tail
   abbrev after : Fleet
   after = withdrawn m tail
 
+  -- the event is not of the tail
   abbrev stays : Event → Bool
   stays e = not (is_done tail e)
 
+  -- these events of the robot are the steps of one walk from its start
   abbrev Rests : List Event → Type 0
   Rests es = AreSteps m.site (slice_get m.starts r) (map (λ (e : Event). e.kind) es)
 
@@ -61,7 +57,7 @@ module _ (m : Fleet) (r : ℕ) (tail : List Event) (good : IsGoodPlan m) (remova
   -- of the robot's own events those in front of the tail are left
   pub own_left : own r after.plan ≡ removable.front
   own_left =
-      filter_swap (λ e. e.robot.0 == r) stays m.plan
+      filter_swap (λ (e : Event). e.robot.0 == r) stays m.plan
       ∙ (ap (λ es. filter stays es) removable.splits
       ∙ (filter-append stays removable.front tail
       ∙ (ap (λ es. es ++ filter stays tail) (filter_all stays removable.front (λ e i. not_from_false (is_done tail e) (done_none tail e (λ g j n. let l = ascending_apart 1 removable.front tail rises i j in absurd (omega arith)))))
@@ -70,9 +66,10 @@ module _ (m : Fleet) (r : ℕ) (tail : List Event) (good : IsGoodPlan m) (remova
       rises : IsAscending 1 (removable.front ++ tail)
       rises = subst (λ es. IsAscending 1 es) removable.splits (IsAscending-own r 1 m.plan (from_one m good))
 
+  -- another robot's events stay
   own_still : (q : ℕ) → (r ≡ q → ⊥) → own q after.plan ≡ own q m.plan
   own_still q apart =
-      filter_swap (λ e. e.robot.0 == q) stays m.plan
+      filter_swap (λ (e : Event). e.robot.0 == q) stays m.plan
       ∙ filter_all stays (own q m.plan) (λ e i. let o = own_In q m.plan i in other_stays e o.0 (λ h. apart (sym h ∙ o.1)) (cases_Bool (stays e)))
 
   -- an order of finished events stays one
@@ -127,6 +124,7 @@ module _ (m : Fleet) (r : ℕ) (tail : List Event) (good : IsGoodPlan m) (remova
 pub withdrawn_good : (m : Fleet) (r : ℕ) → IsGoodPlan m → IsGoodPlan (withdrawn m (removable_tail m r))
 withdrawn_good m r good = tail_withdrawn_good m r (removable_tail m r) good (tail_is m r good)
 
+-- a withdrawal leaves the other robots their ends
 pub withdrawn_end : (m : Fleet) (r q : ℕ) → IsGoodPlan m → (r ≡ q → ⊥) → end_of (withdrawn m (removable_tail m r)) q ≡ end_of m q
 withdrawn_end m r q good apart = tail_withdrawn_end m r (removable_tail m r) good (tail_is m r good) q apart
 

@@ -1,7 +1,7 @@
 -- Sites, walks over them, and the events of a walk.
-use Rattle.std.specs.Prelude.{◌≡◌, ℕ, ◌+◌, ◌<◌, ◌≤◌, Bool, true, false, not, ◌&&◌, ◌||◌, ◌==◌, if◌then◌else◌, List, [], ◌∷◌, ◌++◌, map, length, find, Option, Some, None, slice_get, slice_index_or}
+use Rattle.std.specs.Prelude.{◌≡◌, ℕ, ◌+◌, ◌<◌, ◌≤◌, Bool, true, false, not, ◌&&◌, ◌||◌, ◌==◌, List, [], ◌∷◌, ◌++◌, map, length, find, Option, Some, None, slice_get, slice_index_or}
 use Rattle.std.specs.List.{filter, list_any}
-use Rattle.std.specs.Option.{is_some, option_map, unwrap_or}
+use Rattle.std.specs.Option.{is_some, option_map}
 use Rattle.fleet_base.specs.declared.numbers.CellNo.{CellNo}
 use Rattle.fleet_base.specs.declared.numbers.ClaimGroup.{ClaimGroup}
 use Rattle.fleet_base.specs.declared.numbers.ClaimNo.{ClaimNo}

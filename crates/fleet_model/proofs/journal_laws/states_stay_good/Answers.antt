@@ -1,4 +1,4 @@
-use Rattle.fleet_model.proofs.Kept.{opening_good, journal_good}
+use Rattle.fleet_model.proofs.GoodStates.{opening_good, journal_good}
 use Rattle.fleet_model.proofs.Turns.{call_good}
 use Rattle.fleet_model.proofs.journal_laws.states_stay_good.Goals as goal
 

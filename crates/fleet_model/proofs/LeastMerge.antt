@@ -1,5 +1,5 @@
--- The merge against all insertions.
-use Rattle.std.proofs.Common.{◌≡◌, ◌≢◌, ℕ, ◌<◌, ◌≤◌, Bool, true, false, not, ◌==◌, ◌&&◌, ◌⊎◌, inl, inr, refl, sym, ap, ◌∙◌, subst, List, [], ◌∷◌, ◌++◌, map, arith, Some, append_assoc}
+-- The merge allows what each safe insertion allows; and without a blocker some insertion is safe.
+use Rattle.std.proofs.Common.{◌≡◌, ◌≢◌, ℕ, ◌<◌, ◌≤◌, Bool, true, false, not, ◌==◌, ◌&&◌, ◌⊎◌, inl, inr, refl, sym, ap, ◌∙◌, subst, List, [], ◌∷◌, ◌++◌, map, Some, append_assoc}
 use Rattle.std.proofs.lemmas.Bool.{both_ways, cases_Bool, cases_lt, not-true, not_from_false, and_parts, eqb-false}
 use Rattle.std.specs.Prelude.{slice_get, nat_lt}
 use Rattle.std.specs.List.{filter}
@@ -10,15 +10,16 @@ use Rattle.fleet_base.specs.declared.numbers.Event.{Event}
 use Rattle.fleet_base.specs.declared.numbers.Kind.{Kind}
 use Rattle.fleet_base.specs.declared.numbers.Kind.TheVariants.{Acquire, Move, Release}
 use Rattle.fleet_model.specs.Lists.{In, here, there}
-use Rattle.fleet_model.specs.Sites.{in_conflict, Site, IsSite, steps}
+use Rattle.fleet_model.specs.Sites.{in_conflict, IsSite, steps}
 use Rattle.fleet_model.specs.Plans.{Fleet, after, is_done, clashes, is_awaited, IsBehind, IsReady, IsOrder, IsAllowed, route_events, merged, IsBlocker, Insertion, IsInsertion, IsBehindBy, IsAllowedBy, IsSafeInsertion, IsRoute}
 use Rattle.fleet_model.specs.Good.{IsGoodPlan}
 use Rattle.fleet_model.proofs.Lists.{In_equal, In-append_left, In-append_right, In-append_cases, In-filter, In_unfilter, In-map, In_unmap}
 use Rattle.fleet_model.proofs.Numbers.{done_left}
 use Rattle.fleet_model.proofs.Good.{good_safe}
-use Rattle.fleet_model.proofs.Merge.{numbered-robot}
-use Rattle.fleet_model.proofs.Grown.{merge_good}
+use Rattle.fleet_model.proofs.GoodMerge.{merge_good}
 use Rattle.fleet_model.proofs.Insert.{not_waiting}
+use Rattle.fleet_model.proofs.Numbered.{numbered-robot}
+use Rattle.fleet_model.proofs.Merge.{new_event}
 use Rattle.fleet_model.proofs.Orders as orders
 
 -- an acquire and a release that conflict
@@ -45,21 +46,20 @@ awaited_parts groups e f h =
     (eqb-false f.robot.0 e.robot.0 (not-true (f.robot.0 == e.robot.0) b.0), at_odds groups e.kind f.kind b.1)
 
 module _ (m : Fleet) (r : ℕ) (route : List CellNo) (is_site : IsSite m.site) (good : IsGoodPlan m) where
+  -- the events of the route
   abbrev news : List Event
   news = route_events m r route
 
+  -- the plan with the events of the route
   abbrev plan : List Event
   plan = m.plan ++ news
-
-  -- an event with a high number is of the route
-  is_new : (e : Event) → In e plan → m.next ≤ e.no.0 → In e news
-  is_new e i l = elim (In-append_cases m.plan news i) [ inl j ↦ (let h = good.next e j in absurd (omega arith)) | inr j ↦ j ]
 
   -- what a new event waits for is of the plan before
   is_old : (e f : Event) → In e news → In f plan → f.robot.0 ≢ e.robot.0 → In f m.plan
   is_old e f i j apart = elim (In-append_cases m.plan news j) [ inl k ↦ k | inr k ↦ absurd (apart (numbered-robot m.next r (steps m.site route) f k ∙ sym (numbered-robot m.next r (steps m.site route) e i))) ]
 
   module _ (pairs : Insertion) (insertion : IsInsertion m news pairs) (safe : IsSafeInsertion m news pairs) where
+    -- what an event comes behind, with the pairs of the insertion
     abbrev by : Event → Event → Type 0
     by e f = IsBehindBy m pairs e f
 
@@ -87,12 +87,13 @@ module _ (m : Fleet) (r : ℕ) (route : List CellNo) (is_site : IsSite m.site) (
 
             by_number : (f : Event) → In f plan → is_awaited m.site.groups e f ≡ true → (e.no.0 < m.next) ⊎ (m.next ≤ e.no.0) → is_done (m.finished ++ before) f ≡ true
             by_number f i a (inl l) = ready.waited f i (inr (inl (l, a)))
-            by_number f i a (inr l) = new_waited f i a (is_new e ready.planned l) (cases_Bool (is_done (m.finished ++ before) f))
+            by_number f i a (inr l) = new_waited f i a (new_event m r route good e ready.planned l) (cases_Bool (is_done (m.finished ++ before) f))
 
             waited : (f : Event) → In f plan → IsBehind m.site.groups e f → is_done (m.finished ++ before) f ≡ true
             waited f i (inl o) = ready.waited f i (inl o)
             waited f i (inr a) = by_number f i a (cases_lt e.no.0 m.next)
 
+  -- the event is not finished
   abbrev undone : Event → Bool
   undone e = not (is_done m.finished e)
 
@@ -110,6 +111,7 @@ module _ (m : Fleet) (r : ℕ) (route : List CellNo) (is_site : IsSite m.site) (
       (In-append_left (map (λ (y : Event). (y, g)) (filter undone (after m.site.groups m.plan g))) (pairs_of gs) (In-map (λ (y : Event). (y, g)) (filter undone (after m.site.groups m.plan g)) (In-filter undone (after m.site.groups m.plan g) (In-filter (is_awaited m.site.groups g) m.plan p (rw (← h) a)) (not_from_false (is_done m.finished f) u))))
   pairs_have (g ∷ gs) e f (there i) p a u = In-append_right (map (λ (y : Event). (y, g)) (filter undone (after m.site.groups m.plan g))) (pairs_of gs) (pairs_have gs e f i p a u)
 
+  -- the pair is of an unfinished event of the plan and one of these
   pub record IsPaired (es : List Event) (f e : Event) : Type 0 where
     pub planned : In f m.plan
     pub undone_then : is_done m.finished f ≡ false
@@ -133,6 +135,7 @@ module _ (m : Fleet) (r : ℕ) (route : List CellNo) (is_site : IsSite m.site) (
             new = here (ap (λ (p : Event × Event). p.1) x.2);
           }
 
+  -- each event of the route with all that it waits for in the plan before
   abbrev all_pairs : Insertion
   all_pairs = pairs_of news
 
@@ -156,7 +159,7 @@ module _ (m : Fleet) (r : ℕ) (route : List CellNo) (is_site : IsSite m.site) (
 
           by_number : (f : Event) → In f plan → is_awaited m.site.groups e f ≡ true → (e.no.0 < m.next) ⊎ (m.next ≤ e.no.0) → is_done (m.finished ++ before) f ≡ true
           by_number f i a (inl l) = ready.waited f i (inr (inl (l, a)))
-          by_number f i a (inr l) = let n = is_new e ready.planned l in paired f i a n (is_old e f n i (awaited_parts m.site.groups e f a).0) (cases_Bool (is_done m.finished f))
+          by_number f i a (inr l) = let n = new_event m r route good e ready.planned l in paired f i a n (is_old e f n i (awaited_parts m.site.groups e f a).0) (cases_Bool (is_done m.finished f))
 
           waited : (f : Event) → In f plan → IsBehind m.site.groups e f → is_done (m.finished ++ before) f ≡ true
           waited f i (inl o) = ready.waited f i (inl o)

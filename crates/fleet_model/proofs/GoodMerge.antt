@@ -1,7 +1,7 @@
 -- A merge without a blocker keeps a plan good.
-use Rattle.std.proofs.Common.{◌≡◌, ◌≢◌, ℕ, ◌+◌, ◌<◌, ◌≤◌, true, false, ◌⊎◌, inl, inr, refl, sym, ap, ◌∙◌, subst, List, [], ◌∷◌, ◌++◌, map, arith, eq-eqb, Option, Some, None, append_assoc}
-use Rattle.std.proofs.lemmas.Bool.{both_ways, cases_Bool, cases_eq, ne_eqb}
-use Rattle.std.proofs.lemmas.List.{append-nil, map-append}
+use Rattle.std.proofs.Common.{◌≡◌, ◌≢◌, ℕ, ◌≤◌, true, false, ◌⊎◌, inl, inr, refl, sym, ap, ◌∙◌, subst, List, [], ◌∷◌, ◌++◌, arith, Option, Some, None}
+use Rattle.std.proofs.lemmas.Bool.{both_ways, cases_Bool, cases_eq}
+use Rattle.std.proofs.lemmas.List.{append-nil}
 use Rattle.std.proofs.lemmas.Option.{same_Some}
 use Rattle.std.specs.Prelude.{slice_get}
 use Rattle.fleet_base.specs.declared.numbers.CellNo.{CellNo}
@@ -9,55 +9,20 @@ use Rattle.fleet_base.specs.declared.numbers.ClaimNo.{ClaimNo}
 use Rattle.fleet_base.specs.declared.numbers.Event.{Event}
 use Rattle.fleet_base.specs.declared.numbers.Kind.{Kind}
 use Rattle.fleet_base.specs.declared.numbers.Kind.TheVariants.{Acquire}
-use Rattle.fleet_model.specs.Lists.{In, here, there}
-use Rattle.fleet_model.specs.Sites.{in_conflict, Site, IsSite, step, steps, last_cell, steps_from, IsWalkFrom}
+use Rattle.fleet_model.specs.Lists.{In}
+use Rattle.fleet_model.specs.Sites.{in_conflict, Site, IsSite, steps, last_cell, steps_from, IsWalkFrom}
 use Rattle.fleet_model.specs.Replays.{AreSteps, standing, after_kinds, opening, start_at}
-use Rattle.fleet_model.specs.Plans.{Fleet, own, kinds, numbered, route_events, merged, end_of, IsBlocker, IsRoute}
-use Rattle.fleet_model.specs.Good.{IsAscending, IsGoodPlan, Opens, Closes}
-use Rattle.fleet_model.proofs.Lists.{In_either, In_equal, In-append_left, In-append_cases}
-use Rattle.fleet_model.proofs.Numbers.{low_bound, own-append, IsAscending_lower}
+use Rattle.fleet_model.specs.Plans.{Fleet, kinds, route_events, merged, end_of, IsBlocker, IsRoute}
+use Rattle.fleet_model.specs.Good.{IsGoodPlan, Opens, Closes}
+use Rattle.fleet_model.proofs.Lists.{In_equal, In-append_left, In-append_cases}
+use Rattle.fleet_model.proofs.Numbers.{ascending-append, kinds-append}
 use Rattle.fleet_model.proofs.Claims.{conflict_symmetric}
 use Rattle.fleet_model.proofs.Walks.{steps_stand, start_stands}
 use Rattle.fleet_model.proofs.Good.{end_holds, end_is}
-use Rattle.fleet_model.proofs.Merge.{numbered-ascending, numbered-robot, numbered-below, order_still}
+use Rattle.fleet_model.proofs.Merge.{order_still, news_high}
 use Rattle.fleet_model.proofs.Uses.{use_closes}
-
--- events below a number and events from it on rise together
-pub ascending-append : (low next : ℕ) (xs ys : List Event) → low ≤ next → ((e : Event) → In e xs → e.no.0 < next) → IsAscending low xs → IsAscending next ys → IsAscending low (xs ++ ys)
-ascending-append low next [] ys l f h g = IsAscending_lower next low ys l g
-ascending-append low next (x ∷ xs) ys l f h g = (h.0, ascending-append (x.no.0 + 1) next xs ys (let b = f x (here refl) in omega arith) (λ e m. f e (there m)) h.1 g)
-
--- an event of the numbered does one of these things
-pub numbered-kind : (n r : ℕ) (ks : List Kind) (e : Event) → In e (numbered n r ks) → In e.kind ks
-numbered-kind n r [] e m = elim m [ ]
-numbered-kind n r (k ∷ ks) e m = In_either m (λ i. here (ap (λ (x : Event). x.kind) i)) (λ j. there (numbered-kind (n + 1) r ks e j))
-
--- each of these things is done by an event of the numbered
-pub numbered-event : (n r : ℕ) (ks : List Kind) (k : Kind) → In k ks → (e : Event) × In e (numbered n r ks) × (e.kind ≡ k)
-numbered-event n r [] k i = elim i [ ]
-numbered-event n r (j ∷ ks) k (here h) = (record { no = record { 0 = n }; robot = record { 0 = r }; kind = j }, here refl, sym h)
-numbered-event n r (j ∷ ks) k (there i) = let e = numbered-event (n + 1) r ks k i in (e.0, there e.1, e.2)
-
-pub kinds-numbered : (n r : ℕ) (ks : List Kind) → kinds r (numbered n r ks) ≡ ks
-kinds-numbered n r [] = refl
-kinds-numbered n r (k ∷ ks) = rw (eq-eqb r r refl) (ap (λ zs. k ∷ zs) (kinds-numbered (n + 1) r ks))
-
-pub own-numbered : (n r q : ℕ) (ks : List Kind) → (r ≡ q → ⊥) → own q (numbered n r ks) ≡ []
-own-numbered n r q [] h = refl
-own-numbered n r q (k ∷ ks) h = rw (ne_eqb r q h) (own-numbered (n + 1) r q ks h)
-
-pub kinds-append : (q : ℕ) (xs ys : List Event) → kinds q (xs ++ ys) ≡ kinds q xs ++ kinds q ys
-kinds-append q xs ys = ap (λ es. map (λ (e : Event). e.kind) es) (own-append q xs ys) ∙ map-append (λ (e : Event). e.kind) (own q xs) (own q ys)
-
--- the steps of two walks, one behind the other
-pub steps-append : (site : Site) (a : CellNo) (xs ys : List CellNo) → steps_from site a (xs ++ ys) ≡ steps_from site a xs ++ steps_from site (last_cell a xs) ys
-steps-append site a [] ys = refl
-steps-append site a (x ∷ xs) ys = ap (λ ks. step site a x ++ ks) (steps-append site x xs ys) ∙ sym (append_assoc (step site a x) (steps_from site x xs) (steps_from site (last_cell x xs) ys))
-
--- a walk and one that goes on from its last cell are one walk
-walk-append : (site : Site) (a : CellNo) (xs ys : List CellNo) → IsWalkFrom site a xs → IsWalkFrom site (last_cell a xs) ys → IsWalkFrom site a (xs ++ ys)
-walk-append site a [] ys h g = g
-walk-append site a (x ∷ xs) ys h g = (h.0, walk-append site x xs ys h.1 g)
+use Rattle.fleet_model.proofs.Numbered.{numbered-ascending, numbered-robot, numbered-below, numbered-kind, kinds-numbered, own-numbered}
+use Rattle.fleet_model.proofs.Steps.{steps-append, walk-append}
 
 -- the steps of a walk that goes on from where a robot is make one walk with those before
 walk_more : (site : Site) → IsSite site → (o : Option CellNo) (a z : CellNo) (ks : List Kind) (cells : List CellNo) → o ≡ Some a → AreSteps site o ks → z ≡ (after_kinds (start_at site o) ks).cell → IsWalkFrom site z cells → AreSteps site o (ks ++ steps_from site z cells)
@@ -83,15 +48,13 @@ held_robot site (Some a) ks c h held = (a, refl)
 
 module _ (m : Fleet) (r : ℕ) (a : CellNo) (route : List CellNo) (is_site : IsSite m.site) (good : IsGoodPlan m) (robot : slice_get m.starts r ≡ Some a) (is_route : IsRoute m r route)
     (no_blocker : (c : ClaimNo) (q : ℕ) → IsBlocker m r route c q → ⊥) where
+  -- the events of the route
   abbrev news : List Event
   news = route_events m r route
 
+  -- the plan with the route
   abbrev after : Fleet
   after = merged m r route
-
-  -- the events of the route have the numbers from the next on
-  high : (e : Event) → In e news → m.next ≤ e.no.0
-  high e i = low_bound m.next news (numbered-ascending m.next r (steps m.site route)) i
 
   -- each robot's events are the steps of one walk after the merge
   walk_at : (q : ℕ) → (r ≡ q) ⊎ (r ≡ q → ⊥) → AreSteps m.site (slice_get m.starts q) (kinds q after.plan)
@@ -104,6 +67,7 @@ module _ (m : Fleet) (r : ℕ) (a : CellNo) (route : List CellNo) (is_site : IsS
   still : (q : ℕ) (c : ClaimNo) (low high : ℕ) → Closes m.plan q c low high → Closes after.plan q c low high
   still q c low high x = record { event = x.event; planned = In-append_left m.plan news x.planned; robot = x.robot; kind = x.kind; above = x.above; below = x.below }
 
+  -- a use that an event of the route opens
   abbrev New : ℕ → ClaimNo → ℕ → Type 0
   New q c n = (e : Event) × In e news × (e.robot.0 ≡ q) × (e.kind ≡ Acquire c) × (e.no.0 ≡ n)
 
@@ -117,7 +81,7 @@ module _ (m : Fleet) (r : ℕ) (a : CellNo) (route : List CellNo) (is_site : IsS
   behind_old q s c d n k apart conflict old new = go (cases_Bool ((after_kinds (opening m.site m.starts q) (kinds q m.plan)).holds c))
     where
       late : m.next ≤ new.0.no.0
-      late = high new.0 new.1
+      late = news_high m r route new.0 new.1
 
       moving : new.0.robot.0 ≡ r
       moving = numbered-robot m.next r (steps m.site route) new.0 new.1
@@ -154,6 +118,6 @@ module _ (m : Fleet) (r : ℕ) (a : CellNo) (route : List CellNo) (is_site : IsS
     opened = let f = good.opened in omega arith;
     next = λ e i. elim (In-append_cases m.plan news i) [ inl j ↦ (let l = good.next e j in omega arith) | inr j ↦ numbered-below m.next r (steps m.site route) e j ];
     walks = λ q. walk_at q (cases_eq r q);
-    finished = order_still m.site m.plan news [] m.finished m.next good.next high good.finished;
+    finished = order_still m.site m.plan news [] m.finished m.next good.next (news_high m r route) good.finished;
     uses = λ q s c d n k apart conflict x y. uses_kept q s c d n k apart conflict (opens_cases q c n x) (opens_cases s d k y);
   }

@@ -1,37 +1,26 @@
 -- Each accepted call keeps a state good.
-use Rattle.std.proofs.Common.{zero, suc, ◌≡◌, ◌≢◌, ℕ, ◌+◌, ◌*◌, ◌<◌, ◌≤◌, true, ◌⊎◌, inl, inr, refl, sym, ap, ◌∙◌, subst, List, [], ◌∷◌, ◌++◌, length, arith, Option, Some, None, set, get_or}
-use Rattle.std.proofs.lemmas.Bool.{cases_eq}
+use Rattle.std.proofs.Common.{◌≡◌, ◌≢◌, ℕ, ◌+◌, ◌*◌, ◌≤◌, true, inl, inr, refl, sym, ◌∙◌, subst, List, [], ◌∷◌, ◌++◌, length, arith, Option, Some, None, set, get_or}
 use Rattle.std.proofs.lemmas.List.{length-set}
 use Rattle.std.proofs.lemmas.Option.{same_Some}
 use Rattle.std.specs.Prelude.{slice_get}
-use Rattle.std.specs.List.{filter}
-use Rattle.std.specs.Option.{is_some}
-use Rattle.fleet_base.specs.declared.entries.Act.{Act}
 use Rattle.fleet_base.specs.declared.entries.Entry.{Entry}
 use Rattle.fleet_base.specs.declared.numbers.CellNo.{CellNo}
 use Rattle.fleet_base.specs.declared.numbers.ClaimNo.{ClaimNo}
 use Rattle.fleet_base.specs.declared.numbers.Event.{Event}
-use Rattle.fleet_model.specs.Lists.{In}
-use Rattle.fleet_model.specs.Sites.{Site, IsSite, in_conflict, steps}
-use Rattle.fleet_model.specs.Replays.{AreSteps, opening}
+use Rattle.fleet_model.specs.Sites.{Site, IsSite, in_conflict}
+use Rattle.fleet_model.specs.Replays.{AreSteps}
 use Rattle.fleet_model.specs.Plans.{Fleet, IsReady, IsBehind, IsRoute, end_of, merged, removable_tail, withdrawn}
 use Rattle.fleet_model.specs.States.{State, opening_state, pending_of, owed}
-use Rattle.fleet_model.specs.Calls.{Call, turn, has_cell}
 use Rattle.fleet_model.specs.Good.{IsGoodPlan, IsGood, IsOpening, Opens}
 use Rattle.fleet_model.specs.Journals.{turn_at, call_of, IsJournal, state_after}
 use Rattle.fleet_model.proofs.Ends.{merged_end, route_still}
-use Rattle.fleet_model.proofs.Grown.{merge_good}
-use Rattle.fleet_model.proofs.Accepted.{Change, Grew, Kept, Dropped, Cut, Did, changed, CanChange, Accepts, accepts}
+use Rattle.fleet_model.proofs.GoodMerge.{merge_good}
+use Rattle.fleet_model.proofs.Accepted.{accepts}
 use Rattle.fleet_model.proofs.StepCounts.{steps_few}
 use Rattle.fleet_model.proofs.Withdraw.{withdrawn_good, withdrawn_end}
+use Rattle.fleet_model.proofs.Changes.{Change, Grew, Kept, Dropped, Cut, Did, changed, CanChange, Accepts, changed_count, changed_cap, changed_site}
+use Rattle.fleet_model.proofs.Pending.{pending_cases}
 use Rattle.fleet_model.proofs.Orders as orders
-
-pub pending_cases : (ps : List (Option (List CellNo))) (s r : ℕ) (x : Option (List CellNo)) (y : List CellNo) → get_or (set ps s x) r None ≡ Some y → ((s ≡ r) × (x ≡ Some y)) ⊎ ((s ≡ r → ⊥) × (get_or ps r None ≡ Some y))
-pending_cases [] s r x y h = absurd (cc)
-pending_cases (p ∷ ps) zero zero x y h = inl (refl, h)
-pending_cases (p ∷ ps) zero (suc r) x y h = inr (λ e. omega arith, h)
-pending_cases (p ∷ ps) (suc s) zero x y h = inr (λ e. omega arith, h)
-pending_cases (p ∷ ps) (suc s) (suc r) x y h = elim (pending_cases ps s r x y h) [ inl a ↦ inl (ap (λ n. suc n) a.0, a.1) | inr a ↦ inr (λ e. a.0 (omega arith), a.1) ]
 
 -- a report of a ready event keeps a plan good
 pub report_good : (m : Fleet) (e : Event) → IsGoodPlan m → IsReady (IsBehind m.site.groups) m.plan m.finished e → IsGoodPlan (record m { finished = m.finished ++ e ∷ [] })
@@ -45,6 +34,7 @@ report_good m e good ready = record {
   uses = good.uses;
 }
 
+-- each change that can be made keeps the plan good
 pub changed_plan : (s : State) → IsSite s.fleet.site → IsGood s → (r : ℕ) (c : Change) → CanChange s r c → IsGoodPlan (changed s r c).fleet
 changed_plan s is_site good r (Grew route) can = merge_good s.fleet r can.0.0 route is_site good.plan can.0.1 can.1 can.2
 changed_plan s is_site good r (Kept route) can = good.plan
@@ -59,9 +49,11 @@ others_still s good n r x same ends new q route h =
     elim (pending_cases s.pending r q x route h)
     [ inl a ↦ subst (λ k. IsRoute n k route) a.0 (new route a.1) | inr a ↦ route_still s.fleet n q route same (sym (ends q a.0)) (good.routes q route a.1) ]
 
+-- where nothing is pending, no route is
 none_new : (n : Fleet) (r : ℕ) (route : List CellNo) → None ≡ Some route → IsRoute n r route
 none_new n r route e = absurd (cc)
 
+-- each change that can be made leaves pending routes legal
 pub changed_routes : (s : State) → IsGood s → (r : ℕ) (c : Change) → CanChange s r c → (q : ℕ) (route : List CellNo) → pending_of (changed s r c) q ≡ Some route → IsRoute (changed s r c).fleet q route
 changed_routes s good r (Grew new) can q route p = others_still s good (merged s.fleet r new) r None refl (merged_end s.fleet r new) (none_new (merged s.fleet r new) r) q route p
 changed_routes s good r (Kept new) can q route p = others_still s good s.fleet r (Some new) refl (λ k e. refl) (λ other e. subst (λ x. IsRoute s.fleet r x) (same_Some new other e) can.1) q route p
@@ -69,6 +61,7 @@ changed_routes s good r Dropped can q route p = others_still s good s.fleet r No
 changed_routes s good r Cut can q route p = others_still s good (withdrawn s.fleet (removable_tail s.fleet r)) r None refl (λ k e. withdrawn_end s.fleet r k good.plan e) (none_new (withdrawn s.fleet (removable_tail s.fleet r)) r) q route p
 changed_routes s good r (Did e) can q route p = let old = good.routes q route p in record { long = old.long; short = old.short; linked = old.linked; begins = old.begins }
 
+-- each change leaves each robot its place for a pending route
 changed_places : (s : State) → IsGood s → (r : ℕ) (c : Change) → length (changed s r c).pending ≡ length (changed s r c).fleet.starts
 changed_places s good r (Grew route) = length-set s.pending r None ∙ good.places
 changed_places s good r (Kept route) = length-set s.pending r (Some route) ∙ good.places
@@ -76,33 +69,13 @@ changed_places s good r Dropped = length-set s.pending r None ∙ good.places
 changed_places s good r Cut = length-set s.pending r None ∙ good.places
 changed_places s good r (Did e) = good.places
 
+-- each change that can be made takes at most 7,161 numbers
 changed_numbers : (s : State) → IsSite s.fleet.site → IsGood s → (r : ℕ) (c : Change) → CanChange s r c → (changed s r c).fleet.next ≤ (changed s r c).fleet.first + 7161 * (s.count + 1)
 changed_numbers s is_site good r (Grew route) can = let n = steps_few s.fleet.site is_site route can.1.short in let old = good.numbers in omega arith
 changed_numbers s is_site good r (Kept route) can = let old = good.numbers in omega arith
 changed_numbers s is_site good r Dropped can = let old = good.numbers in omega arith
 changed_numbers s is_site good r Cut can = let old = good.numbers in omega arith
 changed_numbers s is_site good r (Did e) can = let old = good.numbers in omega arith
-
-pub changed_count : (s : State) (r : ℕ) (c : Change) → (changed s r c).count ≡ s.count + 1
-changed_count s r (Grew route) = refl
-changed_count s r (Kept route) = refl
-changed_count s r Dropped = refl
-changed_count s r Cut = refl
-changed_count s r (Did e) = refl
-
-pub changed_cap : (s : State) (r : ℕ) (c : Change) → (changed s r c).cap ≡ s.cap
-changed_cap s r (Grew route) = refl
-changed_cap s r (Kept route) = refl
-changed_cap s r Dropped = refl
-changed_cap s r Cut = refl
-changed_cap s r (Did e) = refl
-
-pub changed_site : (s : State) (r : ℕ) (c : Change) → (changed s r c).fleet.site ≡ s.fleet.site
-changed_site s r (Grew route) = refl
-changed_site s r (Kept route) = refl
-changed_site s r Dropped = refl
-changed_site s r Cut = refl
-changed_site s r (Did e) = refl
 
 -- a change that can be made and has room keeps a state good
 pub changed_good : (s : State) → IsSite s.fleet.site → IsGood s → (r : ℕ) (c : Change) → CanChange s r c → s.count + 1 + owed (changed s r c) ≤ s.cap → IsGood (changed s r c)
@@ -118,6 +91,7 @@ changed_good s is_site good r c can room = record {
 pub accepts_at : (s : State) (entry : Entry) → IsSite s.fleet.site → IsGood s → (turn_at s entry).entry ≡ Some entry → Accepts s entry.robot.0 entry (turn_at s entry).after
 accepts_at s entry is_site good h = accepts s entry.robot.0 (call_of entry.act) entry is_site good h
 
+-- an entry of a legal journal keeps the state good, and the site
 pub turn_good : (s : State) (entry : Entry) → IsSite s.fleet.site → IsGood s → (turn_at s entry).entry ≡ Some entry → IsGood (turn_at s entry).after × IsSite (turn_at s entry).after.fleet.site
 turn_good s entry is_site good h =
     let a = accepts_at s entry is_site good h in (

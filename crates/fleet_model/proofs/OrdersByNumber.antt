@@ -1,4 +1,4 @@
--- The events of a plan that pass a test, by number, are an order where the test goes down along what they come behind.
+-- Where the events that pass a test wait for nothing but what is done or passes with a smaller number, they are an order by number.
 use Rattle.std.proofs.Common.{◌≡◌, ◌+◌, ◌<◌, Bool, true, false, cond, ◌⊎◌, inl, inr, refl, sym, ap, ◌∙◌, subst, List, [], ◌∷◌, ◌++◌, arith, append_assoc}
 use Rattle.std.proofs.lemmas.List.{append-nil}
 use Rattle.std.proofs.lemmas.List.Elements.{filter-append}
@@ -7,8 +7,9 @@ use Rattle.fleet_base.specs.declared.numbers.Event.{Event}
 use Rattle.fleet_model.specs.Lists.{In, here}
 use Rattle.fleet_model.specs.Plans.{is_done, IsReady, IsOrder}
 use Rattle.fleet_model.specs.Good.{IsAscending}
-use Rattle.fleet_model.proofs.Lists.{In_either, In-append_right, In-append_cases, In-filter, In_unfilter, filter_in, filter_out}
+use Rattle.fleet_model.proofs.Lists.{In_either, In-append_right, In-append_cases, In-filter, In_unfilter}
 use Rattle.fleet_model.proofs.Numbers.{low_bound, ascending_apart, ascending_behind, done_in, done_left, done_right, done_neither, done_none}
+use Rattle.fleet_model.proofs.Filters.{filter_in, filter_out}
 
 module _ (behind : Event → Event → Type 0) (plan done : List Event) (p : Event → Bool) (ascends : IsAscending 1 plan)
     (fresh : (e : Event) → In e plan → p e ≡ true → is_done done e ≡ false)
