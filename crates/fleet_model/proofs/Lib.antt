@@ -37,3 +37,4 @@ pub mod Soundness
 pub mod Reports
 pub mod Turns
 pub mod Proposals
+pub mod Tables
