@@ -38,3 +38,4 @@ pub mod Reports
 pub mod Turns
 pub mod Proposals
 pub mod Tables
+pub mod Holdings

@@ -148,7 +148,7 @@ now-other m e q h =
     replay-append (opening m.site m.starts) m.finished (e ∷ []) q
     ∙ ap (λ b. cond b (after_kind e.kind (now m q)) (now m q)) (ne_eqb e.robot.0 q h)
 
-same_test : (x y : ℕ) → (x == y) ≡ (y == x)
+pub same_test : (x y : ℕ) → (x == y) ≡ (y == x)
 same_test x y = elim (cases_eq x y) [ inl e ↦ eq-eqb x y e ∙ sym (eq-eqb y x (sym e)) | inr n ↦ ne_eqb x y n ∙ sym (ne_eqb y x (λ e. n (sym e))) ]
 
 split_done : (x y z : Bool) → y ≡ z → not (x || (y || false)) ≡ (not x && not z)
