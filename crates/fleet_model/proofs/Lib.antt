@@ -39,3 +39,4 @@ pub mod Turns
 pub mod Proposals
 pub mod Tables
 pub mod Holdings
+pub mod Room

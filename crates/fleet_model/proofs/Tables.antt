@@ -14,9 +14,10 @@ use Rattle.fleet_base.specs.declared.numbers.Kind.{Kind}
 use Rattle.fleet_base.specs.declared.numbers.Kind.TheVariants.{Acquire, Move, Release}
 use Rattle.fleet_model.specs.Lists.{In, here, there, numbers_below}
 use Rattle.fleet_model.specs.Sites.{Site, footprint_of, last_cell, step, steps, steps_from, without}
-use Rattle.fleet_model.specs.Replays.{Spot, Spots, after_event, after_kind, after_kinds, opening, replay}
+use Rattle.fleet_model.specs.Replays.{Spot, Spots, after_event, after_kind, after_kinds, opening, replay, start_at}
 use Rattle.fleet_model.specs.Plans.{Fleet, cell_of, end_of, is_done, IsBehind, kinds, merged, own, removable_tail, IsRemovableTail, route_events, unfinished, withdrawn}
 use Rattle.fleet_model.specs.Deferral.{ends}
+use Rattle.fleet_model.specs.States.{opening_state}
 use Rattle.fleet_model.specs.Calls.{reported}
 use Rattle.fleet_model.specs.Good.{IsAscending, IsGoodPlan}
 use Rattle.fleet_model.specs.Tables.{places}
@@ -180,6 +181,11 @@ places-stay m e h = table_same (cell_of (reported m (Some e))) (cell_of m) (numb
     go q (inl i) = subst (λ k. cell_of (reported m (Some e)) k ≡ cell_of m k) i (ap (λ (t : Spot). t.cell) (now-own m e) ∙ stays-put e.kind (now m e.robot.0) h)
     go q (inr n) = ap (λ (t : Spot). t.cell) (now-other m e q n)
 
+-- an acquire or a release leaves the cells
+pub places-other : (m : Fleet) (e : Event) (c : ClaimNo) → (e.kind ≡ Acquire c) ⊎ (e.kind ≡ Release c) → places (reported m (Some e)) ≡ places m
+places-other m e c (inl k) = places-stay m e (λ a b j. let h : Acquire c ≡ Move a b = sym k ∙ j in absurd (cc))
+places-other m e c (inr k) = places-stay m e (λ a b j. let h : Release c ≡ Move a b = sym k ∙ j in absurd (cc))
+
 -- withdrawals
 
 pub unfinished-withdrawn : (m : Fleet) (tail : List Event) → unfinished (withdrawn m tail) ≡ filter (λ e. not (is_done tail e)) (unfinished m)
@@ -239,6 +245,31 @@ module _ (m : Fleet) (r : ℕ) (tail : List Event) (good : IsGoodPlan m) (is : I
       ∙ (ap (λ es. es ++ filter goes tail) (filter_none goes own_left.0 (λ e i. done_none tail e (λ g j n. let l = ascending_apart 1 own_left.0 tail rises i j in omega arith)))
       ∙ filter_all goes tail (λ e i. done_in tail i)))))
 
+  -- what is left of the robot's unfinished events stands in front of the tail
+  pub own_before : own r (unfinished m) ≡ own r (unfinished (withdrawn m tail)) ++ tail
+  own_before = own_left.1 ∙ ap (λ es. es ++ tail) (sym left)
+    where
+      stays : Event → Bool
+      stays e = not (is_done tail e)
+
+      left : own r (unfinished (withdrawn m tail)) ≡ own_left.0
+      left =
+          ap (λ es. own r es) (unfinished-withdrawn m tail)
+          ∙ (filter_swap is_own stays (unfinished m)
+          ∙ (ap (λ es. filter stays es) own_left.1
+          ∙ (filter-append stays own_left.0 tail
+          ∙ (ap (λ es. es ++ filter stays tail) (filter_all stays own_left.0 (λ e i. not_from_false (is_done tail e) (done_none tail e (λ g j n. let l = ascending_apart 1 own_left.0 tail rises i j in omega arith))))
+          ∙ (ap (λ es. own_left.0 ++ es) (filter_none stays tail (λ e i. not_from_true (is_done tail e) (done_in tail i))) ∙ append-nil own_left.0)))))
+
+  -- another robot's unfinished events stay
+  pub own_others : (q : ℕ) → (r ≡ q → ⊥) → own q (unfinished (withdrawn m tail)) ≡ own q (unfinished m)
+  own_others q apart =
+      ap (λ es. own q es) (unfinished-withdrawn m tail)
+      ∙ (filter_swap (λ e. e.robot.0 == q) (λ e. not (goes e)) (unfinished m)
+      ∙ filter_all (λ e. not (goes e)) (own q (unfinished m)) (λ e i.
+          let o = own_In q (unfinished m) i in
+          not_from_false (goes e) (false_from_ne_true (goes e) (λ t. apart (sym (tail_own e (goes_in e o.0 t)).1 ∙ o.1)))))
+
   module _ (t : Event) (ts : List Event) (begins : tail ≡ t ∷ ts) where
     first_of_tail : In t tail
     first_of_tail = subst (λ es. In t es) (sym begins) (here refl)
@@ -269,3 +300,14 @@ module _ (m : Fleet) (r : ℕ) (tail : List Event) (good : IsGoodPlan m) (is : I
     -- a withdrawal takes away the robot's unfinished events from the tail's first on
     pub unfinished-cut : unfinished (withdrawn m tail) ≡ filter (λ e. not ((e.robot.0 == r) && nat_le t.no.0 e.no.0)) (unfinished m)
     unfinished-cut = unfinished-withdrawn m tail ∙ filter_agree_in (λ e. not (goes e)) (λ e. not (is_late e)) (unfinished m) (λ e i. ap (λ b. not b) (goes_late e i (cases_Bool (goes e))))
+
+-- openings
+
+start-cell : (site : Site) (starts : List CellNo) (k : ℕ) → k < length starts → get_or starts k (record { 0 = 0 }) ≡ (opening site starts k).cell
+start-cell site starts k l = ap (λ o. (start_at site o).cell) (sym (slice_get-get_or starts k (record { 0 = 0 }) l))
+
+pub places-opening : (site : Site) (starts : List CellNo) (pending : List (Option (List CellNo))) (next cap : ℕ) → places (opening_state site starts pending next cap).fleet ≡ starts
+places-opening site starts pending next cap = sym (fill_by_all (cell_of (opening_state site starts pending next cap).fleet) starts (length starts) (record { 0 = 0 }) refl (start-cell site starts))
+
+pub ends-opening : (site : Site) (starts : List CellNo) (pending : List (Option (List CellNo))) (next cap : ℕ) → ends (opening_state site starts pending next cap).fleet ≡ starts
+ends-opening site starts pending next cap = sym (fill_by_all (end_of (opening_state site starts pending next cap).fleet) starts (length starts) (record { 0 = 0 }) refl (start-cell site starts))
