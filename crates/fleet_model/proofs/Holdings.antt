@@ -1,11 +1,11 @@
 -- What each robot holds by what was reported: how reports change it, and that it is little.
 use Rattle.std.proofs.Common.{zero, suc, ◌≡◌, ℕ, ◌+◌, ◌<◌, ◌≤◌, Bool, true, false, cond, not, ◌==◌, ◌||◌, ◌&&◌, ◌⊎◌, inl, inr, refl, sym, ap, ◌∙◌, subst, List, [], ◌∷◌, ◌++◌, map, length, length-append, get_or, arith, eq-eqb, Option, Some, None}
-use Rattle.std.proofs.lemmas.Bool.{both_ways, cases_Bool, cases_eq, cases_order, and_parts, or_cases, or_left, or_right, or_from, ne_eqb, lt-ltb, le-ltb, false_from_ne_true}
+use Rattle.std.proofs.lemmas.Bool.{both_ways, cases_eq, and_parts, or_cases, or_left, or_from, ne_eqb, lt-ltb, le-ltb}
 use Rattle.std.proofs.lemmas.List.{length-map, map-append, get_or-map}
 use Rattle.std.proofs.lemmas.List.Elements.{All-contains}
 use Rattle.std.proofs.lemmas.List.FromFn.{fill_by_all}
 use Rattle.std.proofs.lemmas.Option.{slice_get-get_or}
-use Rattle.std.specs.Prelude.{slice_get, slice_set, nat_lt}
+use Rattle.std.specs.Prelude.{slice_get, slice_set}
 use Rattle.std.specs.List.{filter, range_with_len, Contains}
 use Rattle.fleet_base.specs.Lists.{placed, RiseFrom}
 use Rattle.fleet_base.proofs.ClaimLemmas.{length-placed}
@@ -16,13 +16,14 @@ use Rattle.fleet_base.specs.declared.numbers.Kind.{Kind}
 use Rattle.fleet_base.specs.declared.numbers.Kind.TheVariants.{Acquire, Move, Release}
 use Rattle.fleet_model.specs.Lists.{In, here, there, numbers_below, Begins}
 use Rattle.fleet_model.specs.Sites.{footprint_of, has_claim, IsSite, Site, step, steps_from, without}
-use Rattle.fleet_model.specs.Replays.{after_kind, after_kinds, AreSteps, CanDo, held_claims, IsStanding, opening, replay, Spot, standing, start_at}
+use Rattle.fleet_model.specs.Replays.{after_kind, after_kinds, AreSteps, CanDo, held_claims, IsStanding, opening, Spot, standing, start_at}
 use Rattle.fleet_model.specs.Plans.{Fleet, IsBehind, IsReady, kinds, own}
 use Rattle.fleet_model.specs.States.{opening_state}
 use Rattle.fleet_model.specs.Calls.{reported}
 use Rattle.fleet_model.specs.Good.{IsGoodPlan}
 use Rattle.fleet_model.specs.Tables.{held_by, holdings, IsCounted}
-use Rattle.fleet_model.proofs.Lists.{In_either, In_equal, In-append_cases, In-append_left, In-append_right, In-map, In_All, In_unfilter, In_unmap, filter_in, filter_out}
+use Rattle.fleet_model.proofs.Lists.{In_either, In_equal, In-append_cases, In-append_left, In-append_right, In-filter, In-map, In_All, In_unfilter, In_unmap, filter_in, filter_out}
+use Rattle.fleet_model.proofs.Anys.{In_below}
 use Rattle.fleet_model.proofs.Numbers.{In_own}
 use Rattle.fleet_model.proofs.Alone.{after_kinds-append, legal_at, replay_own, same_claim}
 use Rattle.fleet_model.proofs.Walks.{start_stands, step_stands}
@@ -133,6 +134,7 @@ ready_can m e is_site good ready = (legal_at m.site (opening m.site m.starts) m.
 unheld : (m : Fleet) (e : Event) (c : ClaimNo) → IsSite m.site → IsGoodPlan m → IsReady (IsBehind m.site.groups) m.plan m.finished e → e.kind ≡ Acquire c → (now m e.robot.0).holds c ≡ false
 unheld m e c is_site good ready k = subst (λ j. CanDo m.site (now m e.robot.0) j) k (ready_can m e is_site good ready)
 
+-- an acquired claim is not in the list
 pub acquired_missing : (m : Fleet) (e : Event) (c : ClaimNo) → IsSite m.site → IsGoodPlan m → IsReady (IsBehind m.site.groups) m.plan m.finished e → e.kind ≡ Acquire c → Contains (held_by m e.robot.0) c → ⊥
 acquired_missing m e c is_site good ready k has =
     let holds : ClaimNo → Bool = (now m e.robot.0).holds in
@@ -159,9 +161,35 @@ walk_claims : (site : Site) (a : CellNo) (cells : List CellNo) (c : ClaimNo) →
 walk_claims site a [] c i = elim i [ ]
 walk_claims site a (b ∷ bs) c i = elim (In-append_cases (step site a b) (steps_from site b bs) i) [ inl j ↦ (b, step_claims site a b c j) | inr j ↦ walk_claims site b bs c j ]
 
+-- and so is what a robot acquires on its walk, wherever it starts
 steps_claims : (site : Site) (o : Option CellNo) (ks : List Kind) (c : ClaimNo) → AreSteps site o ks → In (Acquire c) ks → (b : CellNo) × In c (footprint_of site b)
 steps_claims site None ks c h i = absurd (elim (subst (λ js. In (Acquire c) js) h i) [ ])
 steps_claims site (Some a) ks c h i = walk_claims site a h.0 c (subst (λ js. In (Acquire c) js) h.2 i)
+
+-- a step releases claims of the footprint that it leaves
+step_releases : (site : Site) (a b : CellNo) (c : ClaimNo) → In (Release c) (step site a b) → In c (footprint_of site a)
+step_releases site a b c i = go (In-append_cases (map (λ d. Acquire d) (without (footprint_of site b) (footprint_of site a))) (Move a b ∷ map (λ d. Release d) (without (footprint_of site a) (footprint_of site b))) i)
+  where
+    go : In (Release c) (map (λ d. Acquire d) (without (footprint_of site b) (footprint_of site a))) ⊎ In (Release c) (Move a b ∷ map (λ d. Release d) (without (footprint_of site a) (footprint_of site b))) → In c (footprint_of site a)
+    go (inl j) = let u = In_unmap (λ d. Acquire d) (without (footprint_of site b) (footprint_of site a)) j in let k : Release c ≡ Acquire u.0 = u.2 in absurd (cc)
+    go (inr j) = In_either j (λ k. absurd (cc)) given
+      where
+        given : In (Release c) (map (λ d. Release d) (without (footprint_of site a) (footprint_of site b))) → In c (footprint_of site a)
+        given l =
+            let old : List ClaimNo = without (footprint_of site a) (footprint_of site b) in
+            let u : (x : ClaimNo) × In x old × (Release c ≡ Release x) = In_unmap (λ d. Release d) old l in
+            let same : c ≡ u.0 = cc in
+            In_equal same (In_unfilter (λ d. not (has_claim (footprint_of site b) d)) (footprint_of site a) u.1).0
+
+-- what a walk releases is of some footprint
+walk_releases : (site : Site) (a : CellNo) (cells : List CellNo) (c : ClaimNo) → In (Release c) (steps_from site a cells) → (b : CellNo) × In c (footprint_of site b)
+walk_releases site a [] c i = elim i [ ]
+walk_releases site a (b ∷ bs) c i = elim (In-append_cases (step site a b) (steps_from site b bs) i) [ inl j ↦ (a, step_releases site a b c j) | inr j ↦ walk_releases site b bs c j ]
+
+-- and so is what a robot releases on its walk, wherever it starts
+steps_releases : (site : Site) (o : Option CellNo) (ks : List Kind) (c : ClaimNo) → AreSteps site o ks → In (Release c) ks → (b : CellNo) × In c (footprint_of site b)
+steps_releases site None ks c h i = absurd (elim (subst (λ js. In (Release c) js) h i) [ ])
+steps_releases site (Some a) ks c h i = walk_releases site a h.0 c (subst (λ js. In (Release c) js) h.2 i)
 
 -- a planned acquire is of one of the site's claims
 pub acquired_counted : (m : Fleet) (e : Event) (c : ClaimNo) → IsCounted m.site → IsGoodPlan m → In e m.plan → e.kind ≡ Acquire c → c.0 < length m.site.groups
@@ -169,6 +197,26 @@ acquired_counted m e c counts good i k =
     let mine : In e.kind (kinds e.robot.0 m.plan) = In-map (λ (f : Event). f.kind) (own e.robot.0 m.plan) (In_own e.robot.0 m.plan i refl) in
     let from : (b : CellNo) × In c (footprint_of m.site b) = steps_claims m.site (slice_get m.starts e.robot.0) (kinds e.robot.0 m.plan) c (good.walks e.robot.0) (subst (λ j. In j (kinds e.robot.0 m.plan)) k mine) in
     counts.counted from.0 c from.1
+
+-- a planned release is of one of the site's claims
+pub released_counted : (m : Fleet) (e : Event) (c : ClaimNo) → IsCounted m.site → IsGoodPlan m → In e m.plan → e.kind ≡ Release c → c.0 < length m.site.groups
+released_counted m e c counts good i k =
+    let mine : In e.kind (kinds e.robot.0 m.plan) = In-map (λ (f : Event). f.kind) (own e.robot.0 m.plan) (In_own e.robot.0 m.plan i refl) in
+    let from : (b : CellNo) × In c (footprint_of m.site b) = steps_releases m.site (slice_get m.starts e.robot.0) (kinds e.robot.0 m.plan) c (good.walks e.robot.0) (subst (λ j. In j (kinds e.robot.0 m.plan)) k mine) in
+    counts.counted from.0 c from.1
+
+-- a member of a list is at some place of it
+In_Contains : {X : Type 0} (xs : List X) (x : X) → In x xs → Contains xs x
+In_Contains [] x m = elim m [ ]
+In_Contains (y ∷ ys) x (here e) = (0, omega arith, sym e)
+In_Contains (y ∷ ys) x (there m) = let r = In_Contains ys x m in (suc r.0, (let l = r.1 in omega arith), r.2)
+
+-- a released claim is in the list
+pub released_there : (m : Fleet) (e : Event) (c : ClaimNo) → IsSite m.site → IsCounted m.site → IsGoodPlan m → IsReady (IsBehind m.site.groups) m.plan m.finished e → e.kind ≡ Release c → Contains (held_by m e.robot.0) c
+released_there m e c is_site counts good ready k =
+    let n : ℕ = length m.site.groups in
+    let holds : (now m e.robot.0).holds c ≡ true = subst (λ j. CanDo m.site (now m e.robot.0) j) k (ready_can m e is_site good ready) in
+    In_Contains (held_by m e.robot.0) c (In-filter (now m e.robot.0).holds (claims_from 0 n) (In-map (λ j. record { 0 = j }) (numbers_below n) (In_below n c.0 (released_counted m e c counts good ready.planned k))) holds)
 
 -- an acquire puts its claim in its place
 held_more : (m : Fleet) (e : Event) (c : ClaimNo) → IsSite m.site → IsCounted m.site → IsGoodPlan m → IsReady (IsBehind m.site.groups) m.plan m.finished e → e.kind ≡ Acquire c → held_behind m e ≡ placed (held_by m e.robot.0) c
@@ -237,6 +285,7 @@ within_kind zs (Acquire c) s w h d t = elim (or_cases (c.0 == d.0) (s.holds d) t
 within_kind zs (Move a b) s w h d t = w d t
 within_kind zs (Release c) s w h d t = w d (and_parts (not (c.0 == d.0)) (s.holds d) t).1
 
+-- and so after many things
 within_kinds : (zs : List ClaimNo) (ks : List Kind) (s : Spot) → Within zs s → ((c : ClaimNo) → In (Acquire c) ks → In c zs) → Within zs (after_kinds s ks)
 within_kinds zs [] s w h = w
 within_kinds zs (k ∷ ks) s w h = within_kinds zs ks (after_kind k s) (within_kind zs k s w (λ c e. h c (here (sym e)))) (λ c i. h c (there i))

@@ -1,5 +1,5 @@
 -- How much each change of a state leaves owed, and which routes it leaves pending.
-use Rattle.std.proofs.Common.{zero, suc, ◌≡◌, ℕ, ◌+◌, ◌<◌, ◌≤◌, Bool, true, false, not, ◌==◌, inl, inr, refl, sym, ap, ◌∙◌, subst, List, [], ◌∷◌, ◌++◌, length, length-append, set, get_or, arith, eq-eqb, Option, Some, None}
+use Rattle.std.proofs.Common.{zero, suc, ◌≡◌, ℕ, ◌+◌, ◌<◌, not, ◌==◌, refl, sym, ap, ◌∙◌, List, [], ◌∷◌, length, length-append, set, get_or, arith, eq-eqb, Option, Some, None}
 use Rattle.std.proofs.lemmas.Bool.{ne_eqb, not_from_true, not_from_false}
 use Rattle.std.proofs.lemmas.List.{set-get_or, get_or-set_same, get_or-set_other}
 use Rattle.std.proofs.lemmas.List.Filters.{length-filter_both}

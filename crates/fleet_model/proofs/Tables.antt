@@ -1,7 +1,7 @@
 -- How merges, reports and withdrawals change the tables beside a plan.
-use Rattle.std.proofs.Common.{◌≡◌, ◌≢◌, ◌↔◌, ℕ, ◌+◌, ◌<◌, ◌≤◌, Bool, true, false, cond, not, ◌==◌, ◌||◌, ◌&&◌, ◌⊎◌, inl, inr, refl, sym, ap, ◌∙◌, subst, List, [], ◌∷◌, ◌++◌, map, length, set, get_or, arith, eq-eqb, Option, Some, None}
-use Rattle.std.proofs.lemmas.Bool.{both_ways, cases_Bool, cases_eq, cases_lt, and_from, and_parts, eqb-true, ne_eqb, not-true, not-false, not_from_true, not_from_false, leb-true, le-leb, false_from_ne_true}
-use Rattle.std.proofs.lemmas.List.{append-nil, length-set, get_or-set_same, get_or-set_other, get_or-map}
+use Rattle.std.proofs.Common.{◌≡◌, ◌↔◌, ℕ, ◌+◌, ◌<◌, ◌≤◌, Bool, true, false, cond, not, ◌==◌, ◌||◌, ◌&&◌, ◌⊎◌, inl, inr, refl, sym, ap, ◌∙◌, subst, List, [], ◌∷◌, ◌++◌, map, length, set, get_or, arith, eq-eqb, Option, Some}
+use Rattle.std.proofs.lemmas.Bool.{both_ways, cases_Bool, cases_eq, and_from, and_parts, eqb-true, ne_eqb, not_from_true, not_from_false, leb-true, le-leb, false_from_ne_true}
+use Rattle.std.proofs.lemmas.List.{append-nil, length-set, get_or-set_same, get_or-set_other}
 use Rattle.std.proofs.lemmas.List.Elements.{filter-append}
 use Rattle.std.proofs.lemmas.List.FromFn.{fill_by_all, get_or-map-range_with_len, length-map-range_with_len}
 use Rattle.std.proofs.lemmas.Option.{slice_get-get_or}
@@ -21,7 +21,7 @@ use Rattle.fleet_model.specs.States.{opening_state}
 use Rattle.fleet_model.specs.Calls.{reported}
 use Rattle.fleet_model.specs.Good.{IsAscending, IsGoodPlan}
 use Rattle.fleet_model.specs.Tables.{places}
-use Rattle.fleet_model.proofs.Lists.{In-append_right, In-append_cases, In_either, In-filter, In_unfilter, filter_in, filter_out}
+use Rattle.fleet_model.proofs.Lists.{In-append_right, In-append_cases, In_either, In_unfilter, filter_in, filter_out}
 use Rattle.fleet_model.proofs.Numbers.{ascending_apart, ascending_behind, done_event, done_in, done_none, from_one, In_own, IsAscending-filter, IsAscending-own, is_done-append, low_bound, one_event, own_In}
 use Rattle.fleet_model.proofs.Alone.{after_kinds-append}
 use Rattle.fleet_model.proofs.Safe.{own_behind}
@@ -30,7 +30,6 @@ use Rattle.fleet_model.proofs.Merge.{numbered-ascending}
 use Rattle.fleet_model.proofs.Grown.{kinds-append, kinds-numbered}
 use Rattle.fleet_model.proofs.Ends.{merged_end}
 use Rattle.fleet_model.proofs.Further.{filter_swap}
-use Rattle.fleet_model.proofs.Tails.{tail_is}
 use Rattle.fleet_model.proofs.Withdraw.{filter_all, filter_none, withdrawn_end}
 use Rattle.fleet_model.proofs.Orders as orders
 
@@ -66,10 +65,10 @@ filter_both s p q (x ∷ xs) h =
     ap (λ zs. cond (s x) (x ∷ zs) zs) (filter_both s p q xs h)
     ∙ (ap (λ b. cond b (x ∷ filter p (filter q xs)) (filter p (filter q xs))) (h x) ∙ both_step p x (filter q xs) (q x) (p x) refl)
 
--- tests that agree on the elements pass the same
 agree_step : {A : Type 0} (x : A) (ys zs : List A) (a b : Bool) → a ≡ b → ys ≡ zs → cond a (x ∷ ys) ys ≡ cond b (x ∷ zs) zs
 agree_step x ys zs a b e h = λ i. cond (e i) (x ∷ h i) (h i)
 
+-- tests that agree on the elements pass the same
 pub filter_agree_in : {A : Type 0} (p q : A → Bool) (xs : List A) → ((x : A) → In x xs → p x ≡ q x) → filter p xs ≡ filter q xs
 filter_agree_in p q [] h = refl
 filter_agree_in p q (x ∷ xs) h = agree_step x (filter p xs) (filter q xs) (p x) (q x) (h x (here refl)) (filter_agree_in p q xs (λ y i. h y (there i)))
@@ -84,9 +83,9 @@ finished_kept m good = orders.order_kept (IsBehind m.site.groups) m.plan (from_o
 route_undone : (m : Fleet) (r : ℕ) (route : List CellNo) → IsGoodPlan m → (e : Event) → In e (route_events m r route) → is_done m.finished e ≡ false
 route_undone m r route good e i =
     done_none m.finished e (λ g j n.
-        let old = good.next g ((finished_kept m good).planned g j) in
-        let new = low_bound m.next (route_events m r route) (numbered-ascending m.next r (steps m.site route)) i in
-        omega arith)
+    let old = good.next g ((finished_kept m good).planned g j) in
+    let new = low_bound m.next (route_events m r route) (numbered-ascending m.next r (steps m.site route)) i in
+    omega arith)
 
 pub unfinished-merged : (m : Fleet) (r : ℕ) (route : List CellNo) → IsGoodPlan m → unfinished (merged m r route) ≡ unfinished m ++ route_events m r route
 unfinished-merged m r route good =
@@ -218,6 +217,7 @@ module _ (m : Fleet) (r : ℕ) (tail : List Event) (good : IsGoodPlan m) (is : I
         ∙ (filter-append undone is.front tail ∙ ap (λ es. filter undone is.front ++ es) (filter_all undone tail (λ e i. not_from_false (is_done m.finished e) (is.undone e i))))),
   )
 
+  -- the robot's unfinished events rise
   rises : IsAscending 1 (own_left.0 ++ tail)
   rises = subst (λ es. IsAscending 1 es) own_left.1 (IsAscending-own r 1 (unfinished m) (IsAscending-filter undone 1 m.plan (from_one m good)))
 
@@ -267,10 +267,11 @@ module _ (m : Fleet) (r : ℕ) (tail : List Event) (good : IsGoodPlan m) (is : I
       ap (λ es. own q es) (unfinished-withdrawn m tail)
       ∙ (filter_swap (λ e. e.robot.0 == q) (λ e. not (goes e)) (unfinished m)
       ∙ filter_all (λ e. not (goes e)) (own q (unfinished m)) (λ e i.
-          let o = own_In q (unfinished m) i in
-          not_from_false (goes e) (false_from_ne_true (goes e) (λ t. apart (sym (tail_own e (goes_in e o.0 t)).1 ∙ o.1)))))
+      let o = own_In q (unfinished m) i in
+      not_from_false (goes e) (false_from_ne_true (goes e) (λ t. apart (sym (tail_own e (goes_in e o.0 t)).1 ∙ o.1)))))
 
   module _ (t : Event) (ts : List Event) (begins : tail ≡ t ∷ ts) where
+    -- the tail's first is in it
     first_of_tail : In t tail
     first_of_tail = subst (λ es. In t es) (sym begins) (here refl)
 
@@ -294,8 +295,8 @@ module _ (m : Fleet) (r : ℕ) (tail : List Event) (good : IsGoodPlan m) (is : I
     goes_late e i (inl y) = let h = (tail_from e i).0 (goes_in e i y) in y ∙ sym (and_from (is_own e) (nat_le t.no.0 e.no.0) (eq-eqb e.robot.0 r h.0) (le-leb t.no.0 e.no.0 h.1))
     goes_late e i (inr n) =
         n ∙ sym (false_from_ne_true (is_late e) (λ y.
-            let h = and_parts (is_own e) (nat_le t.no.0 e.no.0) y in
-            both_ways (goes e) n (done_in tail ((tail_from e i).1 (eqb-true e.robot.0 r h.0, leb-true t.no.0 e.no.0 h.1)))))
+        let h = and_parts (is_own e) (nat_le t.no.0 e.no.0) y in
+        both_ways (goes e) n (done_in tail ((tail_from e i).1 (eqb-true e.robot.0 r h.0, leb-true t.no.0 e.no.0 h.1)))))
 
     -- a withdrawal takes away the robot's unfinished events from the tail's first on
     pub unfinished-cut : unfinished (withdrawn m tail) ≡ filter (λ e. not ((e.robot.0 == r) && nat_le t.no.0 e.no.0)) (unfinished m)

@@ -51,7 +51,7 @@ pub fn merges_change_tables()
 
 /// A report takes its event out of the unfinished ones and leaves the ends. A move puts its robot
 /// into the cell, an acquire its claim among the held ones, where it wasn't, and a release takes
-/// its claim away.
+/// its claim, which was there, away.
 pub fn reports_change_tables()
     ensures unfinished { (m : Fleet) (e : Event) → unfinished (reported m (Some e)) ≡ filter (λ f. not (f.no.0 == e.no.0)) (unfinished m) }
     ensures ends { (m : Fleet) (e : Event) → ends (reported m (Some e)) ≡ ends m }
@@ -61,6 +61,7 @@ pub fn reports_change_tables()
     ensures acquired { (m : Fleet) (e : Event) (c : ClaimNo) → IsSite m.site → IsCounted m.site → IsGoodPlan m → IsReady (IsBehind m.site.groups) m.plan m.finished e → e.kind ≡ Acquire c
         → holdings (reported m (Some e)) ≡ slice_set (holdings m) e.robot.0 (placed (held_by m e.robot.0) c) }
     ensures missing { (m : Fleet) (e : Event) (c : ClaimNo) → IsSite m.site → IsGoodPlan m → IsReady (IsBehind m.site.groups) m.plan m.finished e → e.kind ≡ Acquire c → Contains (held_by m e.robot.0) c → ⊥ }
+    ensures present { (m : Fleet) (e : Event) (c : ClaimNo) → IsSite m.site → IsCounted m.site → IsGoodPlan m → IsReady (IsBehind m.site.groups) m.plan m.finished e → e.kind ≡ Release c → Contains (held_by m e.robot.0) c }
     ensures released { (m : Fleet) (e : Event) (c : ClaimNo) → e.kind ≡ Release c → holdings (reported m (Some e)) ≡ slice_set (holdings m) e.robot.0 (filter (λ d. not (d.0 == c.0)) (held_by m e.robot.0)) }
 {}
 

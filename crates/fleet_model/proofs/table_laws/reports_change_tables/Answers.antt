@@ -1,6 +1,6 @@
 use Rattle.std.proofs.Common.{refl}
 use Rattle.fleet_model.proofs.Tables.{places-moved, places-other, unfinished-reported}
-use Rattle.fleet_model.proofs.Holdings.{acquired_missing, holdings-acquired, holdings-moved, holdings-released}
+use Rattle.fleet_model.proofs.Holdings.{acquired_missing, holdings-acquired, holdings-moved, holdings-released, released_there}
 use Rattle.fleet_model.proofs.table_laws.reports_change_tables.Goals as goal
 
 pub returns : goal.returns
@@ -12,5 +12,6 @@ returns c = record {
   other_place = λ m e c kind. places-other m e c kind;
   acquired = λ m e c is_site counts good ready kind. holdings-acquired m e c is_site counts good ready kind;
   missing = λ m e c is_site good ready kind has. acquired_missing m e c is_site good ready kind has;
+  present = λ m e c is_site counts good ready kind. released_there m e c is_site counts good ready kind;
   released = λ m e c kind. holdings-released m e c kind;
 }
