@@ -44,3 +44,6 @@ pub mod Soundness
 pub mod Reports
 pub mod Turns
 pub mod Proposals
+pub mod Tables
+pub mod Holdings
+pub mod Room

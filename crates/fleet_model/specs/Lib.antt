@@ -12,3 +12,4 @@ pub mod Good
 pub mod Sound
 pub mod Examples
 pub mod Yard
+pub mod Tables

@@ -9,3 +9,4 @@ pub mod examples;
 pub mod journal_laws;
 pub mod plan_laws;
 pub mod route_laws;
+pub mod table_laws;
