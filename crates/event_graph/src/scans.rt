@@ -4,7 +4,7 @@ ghost use Rattle.std.specs.Prelude.{◌≡◌, ◌↔◌, IsTrue};
 ghost use Rattle.fleet_base.specs.declared.numbers.Event.{Event};
 ghost use Rattle.fleet_model.specs.Lists.{In};
 ghost use Rattle.fleet_model.specs.Sites.{in_conflict};
-ghost use Rattle.fleet_model.specs.Plans.{clashes as clash_of, is_awaited as awaits};
+ghost use Rattle.fleet_model.specs.Plans.{clashes as clash_of, is_awaited as awaits, IsBehind};
 ghost use Rattle.fleet_model.specs.Good.{IsAscending};
 ghost use Rattle.event_graph.specs.Graphs.{HasNumber, IsReadyAmong, greatest_after, has_waiting};
 
@@ -38,6 +38,13 @@ fn is_awaited(groups: &[ClaimGroup], e: Event, f: Event) -> bool
     f.no.0 < e.no.0 && f.robot.0 != e.robot.0 && clashes(groups, e.kind, f.kind)
 }
 
+/// Whether e comes behind f: f is an earlier event of its robot, or one that it stands behind.
+fn is_behind(groups: &[ClaimGroup], e: Event, f: Event) -> bool
+    ensures { IsTrue result ↔ IsBehind groups.now e f }
+{
+    f.robot.0 == e.robot.0 && f.no.0 < e.no.0 || is_awaited(groups, e, f)
+}
+
 /// The event with this number.
 pub(crate) fn event_at(events: &[Event], n: EventNo) -> Event
     requires { HasNumber events.now n }
@@ -58,7 +65,7 @@ pub(crate) fn is_ready(groups: &[ClaimGroup], events: &[Event], e: Event) -> boo
     ensures { IsTrue result ↔ IsReadyAmong groups.now events.now e }
 {
     for f in events {
-        if f.robot.0 == e.robot.0 && f.no.0 < e.no.0 || is_awaited(groups, e, *f) {
+        if is_behind(groups, e, *f) {
             return false;
         }
     }
