@@ -44,6 +44,10 @@ stands_behind groups e f c d l r p q h =
 pub none_behind : (groups : List ClaimGroup) (events : List Event) (e f : Event) → IsReadyAmong groups events e → In f events → IsBehind groups e f → ⊥
 none_behind groups events e f ready i b = both_ways false refl (ready.waited f i b)
 
+-- an event that comes behind none is ready
+pub ready_from : (groups : List ClaimGroup) (events : List Event) (e : Event) → In e events → ((f : Event) → In f events → IsBehind groups e f → ⊥) → IsReadyAmong groups events e
+ready_from groups events e i none = record { planned = i; undone = refl; waited = λ f j b. absurd (none f j b) }
+
 -- releases stay apart where each acquire between two that stay does
 pub apart_filter : (groups : List ClaimGroup) (events : List Event) (p : Event → Bool) → AreApart groups events
     → ((f g : Event) (c d : ClaimNo) (b : Acquires events g.robot.0 d f.no.0 g.no.0) → In f events → p f ≡ true → In g events → p g ≡ true → f.robot.0 ≢ g.robot.0 → f.kind ≡ Release c → in_conflict groups c d ≡ true → p b.event ≡ true)
