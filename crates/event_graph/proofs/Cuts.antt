@@ -8,9 +8,9 @@ use Rattle.fleet_base.specs.declared.numbers.Event.{Event}
 use Rattle.fleet_model.specs.Lists.{In, here, there}
 use Rattle.fleet_model.specs.Plans.{is_done, own}
 use Rattle.fleet_model.specs.Good.{IsAscending}
+use Rattle.fleet_model.proofs.Filters.{filter_all}
 use Rattle.fleet_model.proofs.Lists.{In-append_right, In-append_cases, In_either}
 use Rattle.fleet_model.proofs.Numbers.{low_bound, one_event, ascending_apart, ascending_behind, done_in, done_event, IsAscending-own, In_own, own_In}
-use Rattle.fleet_model.proofs.Withdraw.{filter_all}
 use Rattle.event_graph.specs.Graphs.{without_events, tail_of}
 use Rattle.event_graph.proofs.Changes.{stays}
 

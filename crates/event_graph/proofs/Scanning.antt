@@ -11,7 +11,8 @@ use Rattle.fleet_base.specs.declared.numbers.EventNo.{EventNo}
 use Rattle.fleet_model.specs.Lists.{In, here, there, earlier, least}
 use Rattle.fleet_model.specs.Plans.{is_awaited, after, latest}
 use Rattle.fleet_model.specs.Good.{IsAscending}
-use Rattle.fleet_model.proofs.Lists.{In_either, In-append_cases, In_unfilter, filter_in, filter_out}
+use Rattle.fleet_model.proofs.Filters.{filter_in, filter_out}
+use Rattle.fleet_model.proofs.Lists.{In_either, In-append_cases, In_unfilter}
 use Rattle.fleet_model.proofs.Numbers.{IsAscending_front, ascending_apart, one_event}
 use Rattle.event_graph.specs.Graphs.{AtNumber, greatest_after}
 

@@ -11,10 +11,10 @@ use Rattle.fleet_model.specs.Sites.{Site, IsSite, in_conflict}
 use Rattle.fleet_model.specs.Replays.{Spot, CanDo, CanDoAll, after_kinds, opening}
 use Rattle.fleet_model.specs.Plans.{Fleet, unfinished, own, kinds, is_done}
 use Rattle.fleet_model.specs.Good.{IsAscending, IsGoodPlan, Opens, Closes}
-use Rattle.fleet_model.proofs.Lists.{In_split, In_either, In-append_left, In-append_cases, In-filter, In_unfilter}
-use Rattle.fleet_model.proofs.Numbers.{low_bound, ascending_apart, ascending_behind, IsAscending_front, IsAscending-own, In_own, own_In, from_one}
 use Rattle.fleet_model.proofs.Alone.{CanDoAll_at, IsKept, IsKeptFrom, held_since}
 use Rattle.fleet_model.proofs.Good.{able}
+use Rattle.fleet_model.proofs.Lists.{In_split, In_either, In-append_left, In-append_cases, In-filter, In_unfilter}
+use Rattle.fleet_model.proofs.Numbers.{low_bound, ascending_apart, ascending_behind, IsAscending_front, IsAscending-own, In_own, own_In, from_one}
 use Rattle.event_graph.specs.Graphs.{Acquires, AreApart}
 use Rattle.event_graph.proofs.Changes.{stands_behind}
 use Rattle.event_graph.proofs.Whole.{closed}

@@ -17,14 +17,14 @@ use Rattle.fleet_model.specs.Sites.{Site, footprint_of, has_claim, without, step
 use Rattle.fleet_model.specs.Plans.{Fleet, unfinished, own, is_done, is_awaited, after, latest, IsBehind, IsReady, route_events, merged, withdrawn, is_removable, IsRemovableTail}
 use Rattle.fleet_model.specs.Calls.{next_event, waits_on, reported}
 use Rattle.fleet_model.specs.Good.{IsAscending, IsGoodPlan}
-use Rattle.fleet_model.proofs.Lists.{In_either, In-append_right, In-append_cases, In-filter, In_unfilter, In_unmap}
+use Rattle.fleet_model.proofs.Filters.{filter_swap, filter_all, filter_none}
 use Rattle.fleet_model.proofs.Leasts.{least_none}
-use Rattle.fleet_model.proofs.Anys.{any_In, In_any}
+use Rattle.fleet_model.proofs.Lists.{In_either, In-append_right, In-append_cases, In-filter, In_unfilter, In_unmap}
+use Rattle.fleet_model.proofs.Numbered.{numbered-ascending}
 use Rattle.fleet_model.proofs.Numbers.{low_bound, is_done-append, done_none, IsAscending-filter, IsAscending-own, In_own, own_In, own-append, from_one}
-use Rattle.fleet_model.proofs.Merge.{numbered-ascending}
-use Rattle.fleet_model.proofs.Further.{filter_swap, after_kept, ready_kept}
+use Rattle.fleet_model.proofs.Readiness.{after_kept, ready_kept}
 use Rattle.fleet_model.proofs.Safe.{own_behind}
-use Rattle.fleet_model.proofs.Withdraw.{filter_all, filter_none}
+use Rattle.fleet_model.proofs.Tests.{any_In, In_any}
 use Rattle.fleet_model.proofs.Orders as orders
 use Rattle.event_graph.specs.Graphs.{IsKnown, IsReadyAmong, greatest_after, has_waiting, without_number, without_events, tail_of, IsUnawaited}
 use Rattle.event_graph.proofs.Changes.{none_behind}

@@ -22,16 +22,16 @@ use Rattle.fleet_model.specs.States.{opening_state}
 use Rattle.fleet_model.specs.Calls.{reported}
 use Rattle.fleet_model.specs.Good.{IsGoodPlan}
 use Rattle.fleet_model.specs.Tables.{held_by, holdings, IsCounted}
-use Rattle.fleet_model.proofs.Lists.{In_either, In_equal, In-append_cases, In-append_left, In-append_right, In-filter, In-map, In_All, In_unfilter, In_unmap, filter_in, filter_out}
-use Rattle.fleet_model.proofs.Anys.{In_below}
-use Rattle.fleet_model.proofs.Numbers.{In_own}
-use Rattle.fleet_model.proofs.Alone.{after_kinds-append, legal_at, replay_own, same_claim}
-use Rattle.fleet_model.proofs.Walks.{start_stands, step_stands}
-use Rattle.fleet_model.proofs.Good.{good_safe}
-use Rattle.fleet_model.proofs.Counts.{filter_le}
+use Rattle.fleet_model.proofs.Alone.{after_kinds-append, legal_at, replay_own}
 use Rattle.fleet_model.proofs.Blockers.{has_In, In_has}
-use Rattle.fleet_model.proofs.Kept.{report_good}
+use Rattle.fleet_model.proofs.Filters.{filter_in, filter_out, filter_le}
+use Rattle.fleet_model.proofs.Good.{good_safe}
+use Rattle.fleet_model.proofs.GoodStates.{report_good}
+use Rattle.fleet_model.proofs.Lists.{In_either, In_equal, In-append_cases, In-append_left, In-append_right, In-filter, In-map, In_All, In_unfilter, In_unmap, In_below}
+use Rattle.fleet_model.proofs.Numbers.{In_own}
+use Rattle.fleet_model.proofs.SameNumbers.{same_claim}
 use Rattle.fleet_model.proofs.Tables.{filter_agree_in, filter_both, finished_kept, now, now-other, now-own, same_test, table_same, table_set}
+use Rattle.fleet_model.proofs.Walks.{start_stands, step_stands}
 
 -- so many claims from one on
 abbrev claims_from : ℕ → ℕ → List ClaimNo

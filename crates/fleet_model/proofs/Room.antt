@@ -13,13 +13,13 @@ use Rattle.fleet_model.specs.Plans.{Fleet, is_done, IsBehind, IsReady, merged, r
 use Rattle.fleet_model.specs.States.{State, owed, pending_of}
 use Rattle.fleet_model.specs.Calls.{deferring, moved, reported, with_route}
 use Rattle.fleet_model.specs.Good.{IsAscending, IsGood, IsGoodPlan}
-use Rattle.fleet_model.proofs.Lists.{In-filter, filter_in, filter_out}
+use Rattle.fleet_model.proofs.Filters.{filter_in, filter_out, filter_all}
+use Rattle.fleet_model.proofs.Lists.{In-filter}
+use Rattle.fleet_model.proofs.Numbered.{length-numbered}
 use Rattle.fleet_model.proofs.Numbers.{from_one, IsAscending-filter, low_bound}
-use Rattle.fleet_model.proofs.Counts.{emptied_less}
-use Rattle.fleet_model.proofs.Tails.{tail_is}
-use Rattle.fleet_model.proofs.Withdraw.{filter_all}
-use Rattle.fleet_model.proofs.Accepted.{length-numbered}
+use Rattle.fleet_model.proofs.Pending.{emptied_less}
 use Rattle.fleet_model.proofs.Tables.{tail_only, unfinished-merged, unfinished-reported, unfinished-withdrawn}
+use Rattle.fleet_model.proofs.Tails.{tail_is}
 
 module _ {A : Type 0} where
   -- a place that is empty already leaves as many

@@ -21,16 +21,15 @@ use Rattle.fleet_model.specs.States.{opening_state}
 use Rattle.fleet_model.specs.Calls.{reported}
 use Rattle.fleet_model.specs.Good.{IsAscending, IsGoodPlan}
 use Rattle.fleet_model.specs.Tables.{places}
-use Rattle.fleet_model.proofs.Lists.{In-append_right, In-append_cases, In_either, In_unfilter, filter_in, filter_out}
-use Rattle.fleet_model.proofs.Numbers.{ascending_apart, ascending_behind, done_event, done_in, done_none, from_one, In_own, IsAscending-filter, IsAscending-own, is_done-append, low_bound, one_event, own_In}
 use Rattle.fleet_model.proofs.Alone.{after_kinds-append}
-use Rattle.fleet_model.proofs.Safe.{own_behind}
-use Rattle.fleet_model.proofs.Good.{end_is}
-use Rattle.fleet_model.proofs.Merge.{numbered-ascending}
-use Rattle.fleet_model.proofs.Grown.{kinds-append, kinds-numbered}
 use Rattle.fleet_model.proofs.Ends.{merged_end}
-use Rattle.fleet_model.proofs.Further.{filter_swap}
-use Rattle.fleet_model.proofs.Withdraw.{filter_all, filter_none, withdrawn_end}
+use Rattle.fleet_model.proofs.Filters.{filter_in, filter_out, filter_swap, filter_all, filter_none}
+use Rattle.fleet_model.proofs.Good.{end_is}
+use Rattle.fleet_model.proofs.Lists.{In-append_right, In-append_cases, In_either, In_unfilter}
+use Rattle.fleet_model.proofs.Numbered.{numbered-ascending, kinds-numbered}
+use Rattle.fleet_model.proofs.Numbers.{ascending_apart, ascending_behind, done_event, done_in, done_none, from_one, In_own, IsAscending-filter, IsAscending-own, is_done-append, low_bound, one_event, own_In, kinds-append}
+use Rattle.fleet_model.proofs.Safe.{own_behind}
+use Rattle.fleet_model.proofs.Withdraw.{withdrawn_end}
 use Rattle.fleet_model.proofs.Orders as orders
 
 module _ {X : Type 0} (f g : ℕ → X) (n r : ℕ) (x : X) (other : (q : ℕ) → (r ≡ q → ⊥) → f q ≡ g q) (own : f r ≡ x) where

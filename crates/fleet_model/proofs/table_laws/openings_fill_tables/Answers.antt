@@ -1,6 +1,6 @@
 use Rattle.std.proofs.Common.{refl, arith}
-use Rattle.fleet_model.proofs.Tables.{ends-opening, places-opening}
 use Rattle.fleet_model.proofs.Holdings.{holdings-opening}
+use Rattle.fleet_model.proofs.Tables.{ends-opening, places-opening}
 use Rattle.fleet_model.proofs.table_laws.openings_fill_tables.Goals as goal
 
 pub returns : goal.returns

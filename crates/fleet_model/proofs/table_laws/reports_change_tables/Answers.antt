@@ -1,6 +1,6 @@
 use Rattle.std.proofs.Common.{refl}
-use Rattle.fleet_model.proofs.Tables.{places-moved, places-other, unfinished-reported}
 use Rattle.fleet_model.proofs.Holdings.{acquired_missing, holdings-acquired, holdings-moved, holdings-released, released_there}
+use Rattle.fleet_model.proofs.Tables.{places-moved, places-other, unfinished-reported}
 use Rattle.fleet_model.proofs.table_laws.reports_change_tables.Goals as goal
 
 pub returns : goal.returns

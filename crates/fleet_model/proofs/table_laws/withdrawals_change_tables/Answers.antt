@@ -1,7 +1,7 @@
 use Rattle.std.proofs.Common.{refl}
 use Rattle.fleet_model.specs.Plans.{removable_tail}
-use Rattle.fleet_model.proofs.Tails.{tail_is}
 use Rattle.fleet_model.proofs.Tables.{ends-withdrawn, own_before, own_others, tail_from, unfinished-cut, unfinished-withdrawn}
+use Rattle.fleet_model.proofs.Tails.{tail_is}
 use Rattle.fleet_model.proofs.table_laws.withdrawals_change_tables.Goals as goal
 
 pub returns : goal.returns
