@@ -1,6 +1,6 @@
 -- Short lists of claims that ascend.
 use Rattle.std.proofs.Common.{◌≡◌, ℕ, zero, suc, ◌+◌, ◌<◌, ◌≤◌, Bool, true, false, cond, ltb, ◌⊎◌, inl, inr, List, [], ◌∷◌, ◌++◌, length, set, take, drop, Result, Ok, Err, IsOk, OnOk, refl, sym, ap, subst, ◌∙◌, ◌-◌, arith}
-use Rattle.std.specs.List.{Contains, insert, prefix_len, take_while}
+use Rattle.std.specs.List.{Contains, filter, insert, prefix_len, take_while}
 use Rattle.std.proofs.lemmas.Bool.{ltb-true, ltb-false, true≢false}
 use Rattle.fleet_base.specs.declared.numbers.ClaimNo.{ClaimNo}
 use Rattle.fleet_base.specs.Lists.{count_below, placed, RiseFrom}
@@ -146,3 +146,17 @@ take-rotated places part count place claim within upto is =
 pub on_ok : {T E : Type 0} (r : Result T E) (P : Type 0) → IsOk r → OnOk r P → P
 on_ok (Ok x) P is kept = kept
 on_ok (Err e) P is kept = absurd (true≢false (sym is))
+
+-- what rises from somewhere rises from any number below
+pub RiseFrom-lower : (low least : ℕ) (claims : List ClaimNo) → least ≤ low → RiseFrom low claims → RiseFrom least claims
+RiseFrom-lower low least [] upto rise = tt
+RiseFrom-lower low least (c ∷ cs) upto rise = (omega (arith, rise.0), rise.1)
+
+-- claims that ascend still do when some are left out
+pub RiseFrom-filter : (p : ClaimNo → Bool) (low : ℕ) (claims : List ClaimNo) → RiseFrom low claims → RiseFrom low (filter p claims)
+RiseFrom-filter p low [] rise = tt
+RiseFrom-filter p low (c ∷ cs) rise =
+    elim (p c) as (λ b. RiseFrom low (cond b (c ∷ filter p cs) (filter p cs))) [
+      | true ↦ (rise.0, RiseFrom-filter p (c.0 + 1) cs rise.1)
+      | false ↦ RiseFrom-lower (c.0 + 1) low (filter p cs) (omega (arith, rise.0)) (RiseFrom-filter p (c.0 + 1) cs rise.1)
+    ]

@@ -1,6 +1,7 @@
 //! A short list of claims in a fixed array.
 
-ghost use Rattle.std.specs.Prelude.{◌≡◌, ◌<◌, ◌≤◌, [], length, Contains};
+ghost use Rattle.std.specs.Prelude.{◌≡◌, ◌<◌, ◌≤◌, ◌==◌, not, [], length, Contains};
+ghost use Rattle.std.specs.List.{filter};
 ghost use Rattle.fleet_base.specs.Lists.{placed, RiseFrom};
 
 use crate::numbers::ClaimNo;
@@ -57,5 +58,20 @@ impl Held {
         self.places[self.count] = claim;
         self.count += 1;
         self.places[place..self.count].rotate_right(1);
+    }
+
+    /// Takes a claim out of the list, where it is.
+    pub fn remove(&mut self, claim: ClaimNo)
+        ensures { self.new ≡ filter (λ c. not (c.0 == claim.0)) self.old }
+    {
+        let mut kept = 0;
+        for place in 0..self.count {
+            let held = self.places[place];
+            if held.0 != claim.0 {
+                self.places[kept] = held;
+                kept += 1;
+            }
+        }
+        self.count = kept;
     }
 }

@@ -51,6 +51,10 @@ fn held_claims_ascend(rt: HostRuntime) {
     held.put(ClaimNo(6));
     let wanted = [ClaimNo(0), ClaimNo(5), ClaimNo(6), ClaimNo(9)];
     assert_eq!(rt; held.list(), wanted.as_slice());
+    held.remove(ClaimNo(5));
+    held.remove(ClaimNo(7));
+    let wanted = [ClaimNo(0), ClaimNo(6), ClaimNo(9)];
+    assert_eq!(rt; held.list(), wanted.as_slice());
 }
 
 #[test]

@@ -28,7 +28,7 @@ conflict_symmetric groups c d h = go (cases_Bool (c.0 == d.0))
     go (inr f) = rw (apart f) (exclude_symmetric (slice_get groups c.0) (slice_get groups d.0) (rw f at h))
 
 -- a claim below all of a rising list is not in it
-unnamed : (low : ℕ) (cs : List ClaimNo) (c : ClaimNo) → RiseFrom low cs → c.0 < low → has_claim cs c ≡ false
+pub unnamed : (low : ℕ) (cs : List ClaimNo) (c : ClaimNo) → RiseFrom low cs → c.0 < low → has_claim cs c ≡ false
 unnamed low [] c h l = refl
 unnamed low (d ∷ ds) c h l = let a = h.0 in or_from (d.0 == c.0) (has_claim ds c) (ne_eqb d.0 c.0 (λ e. omega arith)) (unnamed (d.0 + 1) ds c h.1 (omega arith))
 

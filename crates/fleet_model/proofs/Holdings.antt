@@ -8,7 +8,7 @@ use Rattle.std.proofs.lemmas.Option.{slice_get-get_or}
 use Rattle.std.specs.Prelude.{slice_get, slice_set}
 use Rattle.std.specs.List.{filter, range_with_len, Contains}
 use Rattle.fleet_base.specs.Lists.{placed, RiseFrom}
-use Rattle.fleet_base.proofs.ClaimLemmas.{length-placed}
+use Rattle.fleet_base.proofs.ClaimLemmas.{length-placed, RiseFrom-filter}
 use Rattle.fleet_base.specs.declared.numbers.CellNo.{CellNo}
 use Rattle.fleet_base.specs.declared.numbers.ClaimNo.{ClaimNo}
 use Rattle.fleet_base.specs.declared.numbers.Event.{Event}
@@ -23,6 +23,7 @@ use Rattle.fleet_model.specs.Calls.{reported}
 use Rattle.fleet_model.specs.Good.{IsGoodPlan}
 use Rattle.fleet_model.specs.Tables.{held_by, holdings, IsCounted}
 use Rattle.fleet_model.proofs.Alone.{after_kinds-append, legal_at, replay_own}
+use Rattle.fleet_model.proofs.Claims.{unnamed}
 use Rattle.fleet_model.proofs.Blockers.{has_In, In_has}
 use Rattle.fleet_model.proofs.Filters.{filter_in, filter_out, filter_le}
 use Rattle.fleet_model.proofs.Good.{good_safe}
@@ -43,20 +44,14 @@ above a zero d m = elim m [ ]
 above a (suc n) d (here e) = omega (arith, ap (λ (x : ClaimNo). x.0) e)
 above a (suc n) d (there m) = let b = above (a + 1) n d m in omega arith
 
--- claims that rise from a bound on rise from each lower one on
-rise_lower : (low least : ℕ) (cs : List ClaimNo) → least ≤ low → RiseFrom low cs → RiseFrom least cs
-rise_lower low least [] l h = tt
-rise_lower low least (c ∷ cs) l h = ((let k = h.0 in omega arith), h.1)
-
--- with or without one more claim in front the claims rise
-rise_step : (a : ℕ) (cs : List ClaimNo) (b : Bool) → RiseFrom (a + 1) cs → RiseFrom a (cond b (record { 0 = a } ∷ cs) cs)
-rise_step a cs true h = (omega arith, h)
-rise_step a cs false h = rise_lower (a + 1) a cs (omega arith) h
+-- these claims rise
+claims_rise : (a n : ℕ) → RiseFrom a (claims_from a n)
+claims_rise a zero = tt
+claims_rise a (suc n) = (omega arith, claims_rise (a + 1) n)
 
 -- those that pass a test rise
 rise_filter : (p : ClaimNo → Bool) (a n : ℕ) → RiseFrom a (filter p (claims_from a n))
-rise_filter p a zero = tt
-rise_filter p a (suc n) = rise_step a (filter p (claims_from (a + 1) n)) (p (record { 0 = a })) (rise_filter p (a + 1) n)
+rise_filter p a n = RiseFrom-filter p a (claims_from a n) (claims_rise a n)
 
 -- a claim that isn't above the first of a list stands in front of it
 placed_front : (c : ClaimNo) (xs : List ClaimNo) → ((d : ClaimNo) → In d xs → c.0 ≤ d.0) → placed xs c ≡ c ∷ xs
@@ -367,11 +362,6 @@ acquired_room m e c is_site counts good ready k =
     omega arith
 
 -- openings
-
--- a claim below all of a rising list is not in it
-unnamed : (low : ℕ) (cs : List ClaimNo) (c : ClaimNo) → RiseFrom low cs → c.0 < low → has_claim cs c ≡ false
-unnamed low [] c h l = refl
-unnamed low (d ∷ ds) c h l = let a = h.0 in or_from (d.0 == c.0) (has_claim ds c) (ne_eqb d.0 c.0 (λ e. omega arith)) (unnamed (d.0 + 1) ds c h.1 (omega arith))
 
 -- those of a rising list are the list
 filter_listed : (cs : List ClaimNo) (a n : ℕ) → RiseFrom a cs → ((d : ClaimNo) → In d cs → d.0 < a + n) → filter (has_claim cs) (claims_from a n) ≡ cs
