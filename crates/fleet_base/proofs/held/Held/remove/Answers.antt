@@ -10,17 +10,17 @@ pub loop-place-preserved : goal.loop-place-preserved
 loop-place-preserved c =
     let lt : c.loop-place.place < length c.loop-place.self-inside.places = omega (arith, c.loop-place.invariant.size, c.loop-place-test.true, c.self.invariant.short) in
     elim c.if-held-claim.branch [
-  | then-held-claim w ↦ rw (w.self-inside-is, w.kept-is) (record {
-      count = c.loop-place.invariant.count;
-      size = length-set _ _ _ ∙ c.loop-place.invariant.size;
-      filters = FiltersInPlace-more_set c.loop-place.invariant.filters lt (search rules) (get_or_default _ _ _ _ lt);
-    })
-  | else-held-claim w ↦ rw (w.self-inside-is, w.kept-is) (record {
-      count = c.loop-place.invariant.count;
-      size = c.loop-place.invariant.size;
-      filters = FiltersInPlace-more_no {x = get_or c.loop-place.self-inside.places c.loop-place.place (record { 0 = 0 })} c.loop-place.invariant.filters lt (search rules) (get_or_default _ _ _ _ lt);
-    })
-]
+      | then-held-claim w ↦ rw (w.self-inside-is, w.kept-is) (record {
+        count = c.loop-place.invariant.count;
+        size = length-set _ _ _ ∙ c.loop-place.invariant.size;
+        filters = FiltersInPlace-more_set c.loop-place.invariant.filters lt (search rules) (get_or_default _ _ _ _ lt);
+      })
+      | else-held-claim w ↦ rw (w.self-inside-is, w.kept-is) (record {
+        count = c.loop-place.invariant.count;
+        size = c.loop-place.invariant.size;
+        filters = FiltersInPlace-more_no {x = get_or c.loop-place.self-inside.places c.loop-place.place (record { 0 = 0 })} c.loop-place.invariant.filters lt (search rules) (get_or_default _ _ _ _ lt);
+      })
+    ]
 
 pub invariant_of-self : goal.invariant_of-self
 invariant_of-self c =
