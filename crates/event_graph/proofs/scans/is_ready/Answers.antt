@@ -16,9 +16,9 @@ returns-then-is_behind c = (
 
 pub loop-f-preserved : goal.loop-f-preserved
 loop-f-preserved c = λ x m b. elim (In_more _ _ _ c.loop-f-test.true m) [
-    | inl j ↦ c.loop-f.invariant x j b
-    | inr k ↦ both_ways c.is_behind.result c.if-is_behind.false (c.is_behind.ensures.1 (subst (λ (y : Event). IsBehind c.args.groups.now c.args.e y) k b))
-  ]
+  | inl j ↦ c.loop-f.invariant x j b
+  | inr k ↦ both_ways c.is_behind.result c.if-is_behind.false (c.is_behind.ensures.1 (subst (λ (y : Event). IsBehind c.args.groups.now c.args.e y) k b))
+]
 
 pub returns : goal.returns
 returns c = (
