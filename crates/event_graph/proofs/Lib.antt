@@ -3,3 +3,4 @@ pub mod Changes
 pub mod Cuts
 pub mod Whole
 pub mod Uses
+pub mod Deciding
