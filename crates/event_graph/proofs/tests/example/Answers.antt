@@ -1,9 +1,7 @@
-use Rattle.std.proofs.Common.{◌≡◌, ◌+◌, ◌∙◌, ap, refl, List, [], ◌++◌, length}
-use Rattle.fleet_base.specs.declared.numbers.ClaimGroup.{ClaimGroup}
+use Rattle.std.proofs.Common.{◌≡◌, ◌+◌, ◌∙◌, ap, refl, List, [], ◌++◌}
 use Rattle.fleet_base.specs.declared.numbers.Event.{Event}
 use Rattle.fleet_model.specs.Sites.{in_conflict}
 use Rattle.fleet_model.specs.Plans.{numbered}
-use Rattle.event_graph.specs.Graphs.{IsKnown}
 use Rattle.event_graph.specs.Example.{example_groups, over, behind, back}
 use Rattle.event_graph.proofs.Deciding.{known_at, apart_at}
 use Rattle.event_graph.proofs.tests.example.Goals as goal
