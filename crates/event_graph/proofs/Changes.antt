@@ -12,13 +12,13 @@ use Rattle.fleet_base.specs.declared.numbers.Kind.{Kind}
 use Rattle.fleet_base.specs.declared.numbers.Kind.TheVariants.{Acquire, Release}
 use Rattle.fleet_model.specs.Lists.{In, here, there}
 use Rattle.fleet_model.specs.Sites.{in_conflict}
-use Rattle.fleet_model.specs.Plans.{clashes, is_awaited, IsBehind, IsReady, numbered}
+use Rattle.fleet_model.specs.Plans.{clashes, is_awaited, IsBehind, numbered}
 use Rattle.fleet_model.specs.Good.{IsAscending}
 use Rattle.fleet_model.proofs.Claims.{conflict_symmetric}
 use Rattle.fleet_model.proofs.Filters.{length-filter-le}
 use Rattle.fleet_model.proofs.Lists.{In-append_cases, In-filter, In_unfilter}
 use Rattle.fleet_model.proofs.Numbered.{numbered-ascending, numbered-robot, numbered-below, numbered-kind, length-numbered}
-use Rattle.fleet_model.proofs.Numbers.{low_bound, one_event, IsAscending-filter, IsAscending_lower}
+use Rattle.fleet_model.proofs.Numbers.{one_event, IsAscending-filter, IsAscending_lower}
 use Rattle.event_graph.specs.Graphs.{IsGraph, IsKnown, Acquires, AreApart, IsReadyAmong, HasReady, without_number}
 
 -- an event stays where those of robot r from number low on go

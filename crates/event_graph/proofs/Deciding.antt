@@ -1,5 +1,5 @@
 -- The conditions of the calls, as tests that compute.
-use Rattle.std.proofs.Common.{◌≡◌, ℕ, ◌<◌, ◌≤◌, Bool, true, false, not, ◌&&◌, ◌||◌, ◌==◌, ◌⊎◌, inl, inr, refl, sym, ap, ◌∙◌, subst, List, [], ◌∷◌, ◌++◌, length, arith, eq-eqb, Option, Some, None}
+use Rattle.std.proofs.Common.{◌≡◌, ℕ, Bool, true, false, not, ◌&&◌, ◌||◌, ◌==◌, inl, inr, refl, sym, ap, ◌∙◌, subst, List, [], ◌∷◌, ◌++◌, length, arith, eq-eqb, Option, Some, None}
 use Rattle.std.specs.Prelude.{nat_lt, nat_le}
 use Rattle.std.specs.List.{list_any, list_all}
 use Rattle.std.proofs.lemmas.Bool.{both_ways, eqb-true, ltb-true, lt-ltb, leb-true, not-true, and_parts, and_from, or_cases, or_left, or_right, false_from_ne_true}
@@ -12,8 +12,8 @@ use Rattle.fleet_base.specs.declared.numbers.Kind.TheVariants.{Acquire, Move, Re
 use Rattle.fleet_model.specs.Lists.{In, here, there}
 use Rattle.fleet_model.specs.Sites.{in_conflict}
 use Rattle.fleet_model.specs.Plans.{numbered, is_awaited, IsBehind}
-use Rattle.fleet_model.proofs.Anys.{any_In, In_any}
-use Rattle.fleet_model.proofs.Alone.{same_claim}
+use Rattle.fleet_model.proofs.SameNumbers.{same_claim}
+use Rattle.fleet_model.proofs.Tests.{any_In, In_any}
 use Rattle.event_graph.specs.Graphs.{Acquires, AreApart, IsKnown, HasNumber, HasReady, IsUnawaited, tail_of}
 use Rattle.event_graph.proofs.Changes.{ready_from}
 

@@ -8,7 +8,7 @@ use Rattle.std.specs.Option.{option_map}
 use Rattle.fleet_base.specs.declared.numbers.ClaimGroup.{ClaimGroup}
 use Rattle.fleet_base.specs.declared.numbers.Event.{Event}
 use Rattle.fleet_base.specs.declared.numbers.EventNo.{EventNo}
-use Rattle.fleet_model.specs.Lists.{In, here, there, earlier, least}
+use Rattle.fleet_model.specs.Lists.{In, here, there, earlier}
 use Rattle.fleet_model.specs.Plans.{is_awaited, after, latest}
 use Rattle.fleet_model.specs.Good.{IsAscending}
 use Rattle.fleet_model.proofs.Filters.{filter_in, filter_out}

@@ -1,14 +1,13 @@
 -- In a good plan an acquire stands between two unfinished releases of conflicting claims.
-use Rattle.std.proofs.Common.{◌≡◌, ◌≢◌, ℕ, ◌+◌, ◌<◌, ◌≤◌, true, false, not, ◌⊎◌, inl, inr, refl, sym, ap, ◌∙◌, subst, List, [], ◌∷◌, ◌++◌, map, arith}
+use Rattle.std.proofs.Common.{◌≡◌, ℕ, ◌+◌, ◌<◌, true, not, inl, inr, refl, sym, ap, ◌∙◌, subst, List, ◌∷◌, ◌++◌, map, arith}
 use Rattle.std.proofs.lemmas.Bool.{both_ways, not-true, not_from_false, false_from_ne_true, cases_order}
 use Rattle.std.proofs.lemmas.List.{map-append}
 use Rattle.fleet_base.specs.declared.numbers.ClaimNo.{ClaimNo}
 use Rattle.fleet_base.specs.declared.numbers.Event.{Event}
-use Rattle.fleet_base.specs.declared.numbers.Kind.{Kind}
-use Rattle.fleet_base.specs.declared.numbers.Kind.TheVariants.{Acquire, Release}
+use Rattle.fleet_base.specs.declared.numbers.Kind.TheVariants.{Release}
 use Rattle.fleet_model.specs.Lists.{In, here}
-use Rattle.fleet_model.specs.Sites.{Site, IsSite, in_conflict}
-use Rattle.fleet_model.specs.Replays.{Spot, CanDo, CanDoAll, after_kinds, opening}
+use Rattle.fleet_model.specs.Sites.{IsSite}
+use Rattle.fleet_model.specs.Replays.{CanDo, CanDoAll, after_kinds, opening}
 use Rattle.fleet_model.specs.Plans.{Fleet, unfinished, own, kinds, is_done}
 use Rattle.fleet_model.specs.Good.{IsAscending, IsGoodPlan, Opens, Closes}
 use Rattle.fleet_model.proofs.Alone.{CanDoAll_at, IsKept, IsKeptFrom, held_since}

@@ -3,7 +3,7 @@ use Rattle.std.proofs.Common.{◌≡◌, ◌↔◌, ℕ, ◌+◌, ◌-◌, ◌<�
 use Rattle.std.specs.Prelude.{slice_get}
 use Rattle.std.specs.List.{filter, list_any, list_all}
 use Rattle.std.specs.Option.{option_map}
-use Rattle.std.proofs.lemmas.Bool.{both_ways, not-true, not_from_false, not_from_true, false_from_ne_true, cases_Bool, eqb-true, or_left, or_right, or_from, ne_eqb, eqb-false}
+use Rattle.std.proofs.lemmas.Bool.{both_ways, not-true, not_from_false, false_from_ne_true, cases_Bool, eqb-true, or_left, or_from, ne_eqb, eqb-false}
 use Rattle.std.proofs.lemmas.List.Elements.{filter-append}
 use Rattle.std.proofs.Math.Seq.{drop-append_seam}
 use Rattle.fleet_base.specs.declared.numbers.CellNo.{CellNo}
@@ -19,9 +19,9 @@ use Rattle.fleet_model.specs.Calls.{next_event, waits_on, reported}
 use Rattle.fleet_model.specs.Good.{IsAscending, IsGoodPlan}
 use Rattle.fleet_model.proofs.Filters.{filter_swap, filter_all, filter_none}
 use Rattle.fleet_model.proofs.Leasts.{least_none}
-use Rattle.fleet_model.proofs.Lists.{In_either, In-append_right, In-append_cases, In-filter, In_unfilter, In_unmap}
+use Rattle.fleet_model.proofs.Lists.{In_either, In-append_cases, In-filter, In_unfilter, In_unmap}
 use Rattle.fleet_model.proofs.Numbered.{numbered-ascending}
-use Rattle.fleet_model.proofs.Numbers.{low_bound, is_done-append, done_none, IsAscending-filter, IsAscending-own, In_own, own_In, own-append, from_one}
+use Rattle.fleet_model.proofs.Numbers.{low_bound, is_done-append, done_none, IsAscending-filter, IsAscending-own, In_own, own_In, from_one}
 use Rattle.fleet_model.proofs.Readiness.{after_kept, ready_kept}
 use Rattle.fleet_model.proofs.Safe.{own_behind}
 use Rattle.fleet_model.proofs.Tests.{any_In, In_any}

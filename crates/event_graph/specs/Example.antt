@@ -1,6 +1,5 @@
 -- A plan of three robots, which the tests go through.
-use Rattle.std.specs.Prelude.{◌≡◌, ℕ, true, List, [], ◌∷◌, ◌++◌, map}
-use Rattle.std.specs.List.{range_with_len}
+use Rattle.std.specs.Prelude.{◌≡◌, ℕ, true, List, [], ◌∷◌, ◌++◌}
 use Rattle.fleet_base.specs.declared.numbers.CellNo.{CellNo}
 use Rattle.fleet_base.specs.declared.numbers.ClaimGroup.{ClaimGroup}
 use Rattle.fleet_base.specs.declared.numbers.ClaimNo.{ClaimNo}
@@ -10,9 +9,11 @@ use Rattle.fleet_base.specs.declared.numbers.Kind.TheVariants.{Acquire, Move, Re
 use Rattle.fleet_model.specs.Plans.{numbered}
 use Rattle.event_graph.specs.Graphs.{Graph}
 
+-- the claim of this number
 abbrev pub claim : ℕ → ClaimNo
 claim n = record { 0 = n }
 
+-- the cell of this number
 abbrev pub cell : ℕ → CellNo
 cell n = record { 0 = n }
 
@@ -32,6 +33,7 @@ behind = Acquire (claim 1) ∷ Move (cell 3) (cell 1) ∷ Release (claim 3) ∷ 
 abbrev pub back : List Kind
 back = Acquire (claim 0) ∷ Move (cell 4) (cell 0) ∷ Release (claim 4) ∷ []
 
+-- the events of the three robots
 abbrev pub example_events : List Event
 example_events = (numbered 1 0 over ++ numbered 7 1 behind) ++ numbered 10 2 back
 

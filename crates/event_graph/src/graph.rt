@@ -30,7 +30,13 @@ impl Model for EventGraph {
 
     ghost Value = { Graph };
 
-    ghost view = { λ g. record { robots = g.robots; groups = g.groups.items; events = g.kept.items; next = g.next_no; spare = vec_capacity g.kept - vec_len g.kept } };
+    ghost view = { λ g. record {
+      robots = g.robots;
+      groups = g.groups.items;
+      events = g.kept.items;
+      next = g.next_no;
+      spare = vec_capacity g.kept - vec_len g.kept;
+    } };
 
     ghost invariant = { λ g. IsGraph g.robots g.groups.items g.kept.items g.next_no };
 }
@@ -70,7 +76,8 @@ impl EventGraph {
     /// Whether no earlier event of the event's robot is unfinished, and none that it stands behind.
     pub fn ready(&self, event: EventNo) -> bool
         requires { HasNumber self.now.events event }
-        ensures { AtNumber self.now.events event (λ e. IsTrue result ↔ IsReadyAmong self.now.groups self.now.events e) }
+        ensures { AtNumber self.now.events event
+            (λ e. IsTrue result ↔ IsReadyAmong self.now.groups self.now.events e) }
     {
         is_ready(&self.groups, &self.kept, event_at(&self.kept, event))
     }
@@ -78,7 +85,8 @@ impl EventGraph {
     /// The greatest number of an unfinished event that this one stands behind.
     pub fn greatest_before(&self, event: EventNo) -> Option<EventNo>
         requires { HasNumber self.now.events event }
-        ensures { AtNumber self.now.events event (λ e. result ≡ greatest_after self.now.groups self.now.events e) }
+        ensures { AtNumber self.now.events event
+            (λ e. result ≡ greatest_after self.now.groups self.now.events e) }
     {
         greatest(&self.groups, &self.kept, event_at(&self.kept, event))
     }
@@ -107,7 +115,8 @@ impl EventGraph {
     /// Whether an unfinished event of another robot stands behind this one.
     pub fn awaited(&self, event: EventNo) -> bool
         requires { HasNumber self.now.events event }
-        ensures { AtNumber self.now.events event (λ f. result ≡ has_waiting self.now.groups self.now.events f) }
+        ensures { AtNumber self.now.events event
+            (λ f. result ≡ has_waiting self.now.groups self.now.events f) }
     {
         is_waited_for(&self.groups, &self.kept, event_at(&self.kept, event))
     }
@@ -148,9 +157,11 @@ impl EventGraph {
         requires few { length self.old.events + length kinds.now < 2 ^ 32 }
         requires robot { robot.0 < self.old.robots }
         requires known { (k : Kind) → In k kinds.now → IsKnown (length self.old.groups) k }
-        requires apart { AreApart self.old.groups (self.old.events ++ numbered self.old.next robot.0 kinds.now) }
+        requires apart { AreApart self.old.groups
+            (self.old.events ++ numbered self.old.next robot.0 kinds.now) }
         ensures first { result.0 ≡ self.old.next }
-        ensures events { self.new.events ≡ self.old.events ++ numbered self.old.next robot.0 kinds.now }
+        ensures events { self.new.events
+            ≡ self.old.events ++ numbered self.old.next robot.0 kinds.now }
         ensures next { self.new.next ≡ self.old.next + length kinds.now }
         ensures setting { HasSameSetting self.old self.new }
     {
@@ -170,8 +181,10 @@ impl EventGraph {
     pub fn cut_tail(&mut self, robot: RobotNo, count: u32)
         requires robot { robot.0 < self.old.robots }
         requires unfinished { count ≤ length (own robot.0 self.old.events) }
-        requires unawaited { IsUnawaited self.old.groups self.old.events (tail_of robot.0 count self.old.events) }
-        ensures events { self.new.events ≡ without_events self.old.events (tail_of robot.0 count self.old.events) }
+        requires unawaited { IsUnawaited self.old.groups self.old.events
+            (tail_of robot.0 count self.old.events) }
+        ensures events { self.new.events
+            ≡ without_events self.old.events (tail_of robot.0 count self.old.events) }
         ensures next { self.new.next ≡ self.old.next }
         ensures setting { HasSameSetting self.old self.new }
     {

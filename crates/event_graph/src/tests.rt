@@ -1,7 +1,7 @@
 //! A small plan of three robots, through each call.
 
-ghost use Rattle.std.specs.Prelude.{IfOk};
-ghost use Rattle.event_graph.specs.Example.{IsExample};
+ghost use Rattle.std.specs.Prelude.{◌≡◌, IfOk};
+ghost use Rattle.event_graph.specs.Example.{IsExample, example_groups};
 
 use crate::graph::EventGraph;
 use fleet_base::numbers::{CellNo, ClaimGroup, ClaimNo, Event, EventNo, Kind, RobotNo};
@@ -9,12 +9,11 @@ use fleet_base::path::NoMemory;
 use std::alloc::Global;
 use std::test::Fail;
 
-// Cells 0 to 4, each with one claim. Robot 0 goes from 0 over 1 to 2, then robot 1 from 3 to 1, and
-// robot 2 from 4 to 0.
-fn example(alloc: Global) -> Result<EventGraph, NoMemory>
-    ensures { IfOk result IsExample }
+// Five claims, each alone in its group.
+fn alone_groups() -> [ClaimGroup; 5]
+    ensures { result ≡ example_groups }
 {
-    let groups = [
+    [
         ClaimGroup {
             group: 0,
             alone: true,
@@ -35,7 +34,14 @@ fn example(alloc: Global) -> Result<EventGraph, NoMemory>
             group: 4,
             alone: true,
         },
-    ];
+    ]
+}
+
+// Cells 0 to 4, each with one claim. Robot 0 goes from 0 over 1 to 2, then robot 1 from 3 to 1, and
+// robot 2 from 4 to 0.
+fn example(alloc: Global) -> Result<EventGraph, NoMemory>
+    ensures { IfOk result IsExample }
+{
     let over = [
         Kind::Acquire(ClaimNo(1)),
         Kind::Move(CellNo(0), CellNo(1)),
@@ -54,7 +60,7 @@ fn example(alloc: Global) -> Result<EventGraph, NoMemory>
         Kind::Move(CellNo(4), CellNo(0)),
         Kind::Release(ClaimNo(4)),
     ];
-    let mut graph = EventGraph::new(alloc, 3, &groups, EventNo(1))?;
+    let mut graph = EventGraph::new(alloc, 3, &alone_groups(), EventNo(1))?;
     graph.reserve(&over)?;
     graph.append(RobotNo(0), &over);
     graph.reserve(&behind)?;

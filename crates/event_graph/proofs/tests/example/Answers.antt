@@ -1,15 +1,13 @@
-use Rattle.std.proofs.Common.{◌≡◌, ◌+◌, ◌∙◌, ap, refl, List, [], ◌++◌, length}
-use Rattle.fleet_base.specs.declared.numbers.ClaimGroup.{ClaimGroup}
+use Rattle.std.proofs.Common.{◌≡◌, ◌+◌, ◌∙◌, ap, refl, List, [], ◌++◌}
 use Rattle.fleet_base.specs.declared.numbers.Event.{Event}
 use Rattle.fleet_model.specs.Sites.{in_conflict}
 use Rattle.fleet_model.specs.Plans.{numbered}
-use Rattle.event_graph.specs.Graphs.{IsKnown}
 use Rattle.event_graph.specs.Example.{example_groups, over, behind, back}
 use Rattle.event_graph.proofs.Deciding.{known_at, apart_at}
 use Rattle.event_graph.proofs.tests.example.Goals as goal
 
 groups_1 : (c : goal.After-over-2-1) → c.reserve.new.self.groups ≡ example_groups
-groups_1 c = c.reserve.ensures.unchanged.groups ∙ c.in_ok-graph.ensures.groups
+groups_1 c = c.reserve.ensures.unchanged.groups ∙ (c.in_ok-graph.ensures.groups ∙ c.alone_groups.ensures)
 
 pub append-requires-clause-known : goal.append-requires-clause-known
 append-requires-clause-known c = known_at c.reserve.new.self.groups example_groups over (groups_1 c) refl
@@ -19,7 +17,7 @@ unfolding in_conflict
 append-requires-clause-apart c = apart_at c.reserve.new.self.groups example_groups c.reserve.new.self.events [] c.reserve.new.self.next 1 0 over (groups_1 c) (c.reserve.ensures.unchanged.events ∙ c.in_ok-graph.ensures.events) (c.reserve.ensures.unchanged.next ∙ c.in_ok-graph.ensures.next) refl
 
 groups_2 : (c : goal.After-behind-2-1) → c.reserve-2.new.self.groups ≡ example_groups
-groups_2 c = c.reserve-2.ensures.unchanged.groups ∙ (c.append.ensures.setting.groups ∙ (c.reserve.ensures.unchanged.groups ∙ c.in_ok-graph.ensures.groups))
+groups_2 c = c.reserve-2.ensures.unchanged.groups ∙ (c.append.ensures.setting.groups ∙ (c.reserve.ensures.unchanged.groups ∙ (c.in_ok-graph.ensures.groups ∙ c.alone_groups.ensures)))
 
 events_2 : (c : goal.After-behind-2-1) → c.reserve-2.new.self.events ≡ numbered 1 0 over
 events_2 c =
@@ -38,7 +36,7 @@ unfolding in_conflict
 append-requires-2-clause-apart c = apart_at c.reserve-2.new.self.groups example_groups c.reserve-2.new.self.events (numbered 1 0 over) c.reserve-2.new.self.next 7 1 behind (groups_2 c) (events_2 c) (next_2 c) refl
 
 groups_3 : (c : goal.After-back-2-1) → c.reserve-3.new.self.groups ≡ example_groups
-groups_3 c = c.reserve-3.ensures.unchanged.groups ∙ (c.append-2.ensures.setting.groups ∙ (c.reserve-2.ensures.unchanged.groups ∙ (c.append.ensures.setting.groups ∙ (c.reserve.ensures.unchanged.groups ∙ c.in_ok-graph.ensures.groups))))
+groups_3 c = c.reserve-3.ensures.unchanged.groups ∙ (c.append-2.ensures.setting.groups ∙ (c.reserve-2.ensures.unchanged.groups ∙ (c.append.ensures.setting.groups ∙ (c.reserve.ensures.unchanged.groups ∙ (c.in_ok-graph.ensures.groups ∙ c.alone_groups.ensures)))))
 
 pub append-requires-3-clause-known : goal.append-requires-3-clause-known
 append-requires-3-clause-known c = known_at c.reserve-3.new.self.groups example_groups back (groups_3 c) refl

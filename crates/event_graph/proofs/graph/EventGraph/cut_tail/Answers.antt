@@ -1,11 +1,10 @@
-use Rattle.std.proofs.Common.{◌≡◌, ◌-◌, ◌∙◌, ap, sym, subst, rules, tests, Option, Some, None, length}
+use Rattle.std.proofs.Common.{◌≡◌, ◌-◌, ◌∙◌, ap, sym, subst, rules, tests, Some, length}
 use Rattle.std.specs.Prelude.{slice_get}
 use Rattle.std.specs.List.{filter}
 use Rattle.std.proofs.lemmas.Fn.{filter_same}
-use Rattle.fleet_base.specs.declared.numbers.Event.{Event}
 use Rattle.fleet_model.specs.Plans.{own}
 use Rattle.fleet_model.specs.Good.{IsAscending}
-use Rattle.event_graph.specs.Graphs.{Graph, without_events, tail_of}
+use Rattle.event_graph.specs.Graphs.{Graph}
 use Rattle.event_graph.proofs.Changes.{stays, cut_good}
 use Rattle.event_graph.proofs.Cuts.{cut_none, cut_some}
 use Rattle.event_graph.proofs.graph.EventGraph.cut_tail.Goals as goal
