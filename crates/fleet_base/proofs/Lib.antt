@@ -1,1 +1,3 @@
+pub mod ClaimLemmas
+pub mod EdgeLemmas
 pub mod Equal

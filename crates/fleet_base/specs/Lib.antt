@@ -1,2 +1,5 @@
+pub mod ClaimLists
+pub mod EdgeSets
+pub mod HeldLists
 pub mod Lists
 pub mod RobotLists

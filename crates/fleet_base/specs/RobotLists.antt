@@ -1,5 +1,5 @@
 -- The places of a short list of robots.
-use Rattle.std.specs.Prelude.{◌≡◌, ℕ, ◌+◌, ◌-◌, ◌<◌, List, [], ◌∷◌, ◌++◌, length, map, take, drop, replicate, slice_set, All}
+use Rattle.std.specs.Prelude.{◌≡◌, ℕ, ◌+◌, ◌-◌, ◌<◌, List, [], ◌∷◌, ◌++◌, length, take, drop, replicate, slice_set, All}
 use Rattle.std.proofs.Common.{refl, ap, sym, subst, ◌∙◌, arith}
 use Rattle.std.proofs.lemmas.List.{take-append-drop, length-map, length-take, drop-set-lt, drop-drop, drop-replicate, take_more_set, length-set}
 use Rattle.std.proofs.lemmas.List.Elements.{All-push}
@@ -21,7 +21,7 @@ pub record IsKept (l : Inside) : Type 0 where
 abbrev pub places_of : List RobotNo → Inside
 places_of robots = record { len = length robots; places = numbers_of robots ++ replicate (64 - length robots) 0 }
 
-numbers_of-robots_of : (numbers : List ℕ) → numbers_of (robots_of numbers) ≡ numbers
+pub numbers_of-robots_of : (numbers : List ℕ) → numbers_of (robots_of numbers) ≡ numbers
 numbers_of-robots_of [] = refl
 numbers_of-robots_of (n ∷ ns) = ap (λ xs. n ∷ xs) (numbers_of-robots_of ns)
 
@@ -30,9 +30,9 @@ pub places_of-shown : (l : Inside) → IsKept l → places_of (shown l) ≡ l
 places_of-shown l kept =
     let len : length (shown l) ≡ l.len = length-map (take l.len l.places) (λ n. record { 0 = n }) ∙ kept.used in
     let places : numbers_of (shown l) ++ replicate (64 - l.len) 0 ≡ l.places =
-        ap (λ ns. ns ++ replicate (64 - l.len) 0) (numbers_of-robots_of (take l.len l.places))
-        ∙ ap (λ ns. take l.len l.places ++ ns) (sym kept.unused)
-        ∙ take-append-drop l.len l.places
+    ap (λ ns. ns ++ replicate (64 - l.len) 0) (numbers_of-robots_of (take l.len l.places))
+    ∙ ap (λ ns. take l.len l.places ++ ns) (sym kept.unused)
+    ∙ take-append-drop l.len l.places
     in
     let with_len : ℕ → Inside = λ n. record { len = n; places = numbers_of (shown l) ++ replicate (64 - n) 0 } in
     let with_places : List ℕ → Inside = λ ps. record { len = l.len; places = ps } in

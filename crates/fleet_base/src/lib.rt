@@ -2,8 +2,15 @@
 #![tactic(auto)]
 
 pub mod answers;
+pub mod claim_set;
+pub mod claims;
+pub mod edges;
 pub mod entries;
+pub mod held;
 pub mod limits;
 pub mod numbers;
 pub mod path;
+mod placing;
 pub mod robot_list;
+#[cfg(test)]
+mod tests;

@@ -1,171 +1,121 @@
--- What is known of an accepted call: what it did to the state, and what its entry tells.
-use Rattle.std.proofs.Common.{zero, suc, ◌≡◌, ℕ, ◌+◌, ◌<◌, ◌≤◌, Bool, true, false, not, ◌==◌, cond, ◌⊎◌, inl, inr, refl, sym, ap, ◌∙◌, subst, List, [], ◌∷◌, ◌++◌, length, arith, Option, Some, None, set, get_or}
-use Rattle.std.proofs.lemmas.Bool.{both_ways, cases_Bool, not_from_true, not-true, not-false, not_from_false, ltb-true, ltb-false, eqb-true, eqb-false}
+-- An accepted call makes a change that can be made, has room, and its entry tells of it.
+use Rattle.std.proofs.Common.{zero, suc, ◌≡◌, ℕ, ◌+◌, ◌<◌, ◌≤◌, Bool, true, false, not, ◌==◌, ◌⊎◌, inl, inr, refl, sym, ap, ◌∙◌, subst, List, [], ◌∷◌, ◌++◌, length, arith, Option, Some, None}
+use Rattle.std.proofs.lemmas.Bool.{both_ways, cases_Bool, not_from_true, not-true, not-false, not_from_false, ltb-true, ltb-false, eqb-true}
 use Rattle.std.proofs.lemmas.Option.{same_Some}
-use Rattle.std.specs.Prelude.{slice_get, slice_set, nat_lt, nat_le, Ok}
+use Rattle.std.specs.Prelude.{slice_get, nat_lt, nat_le, Ok}
 use Rattle.std.specs.List.{filter}
 use Rattle.std.proofs.lemmas.List.{length-append}
 use Rattle.std.proofs.lemmas.List.Elements.{filter-append}
-use Rattle.std.proofs.lemmas.List.Sums.{length-filter, count_by-le-length}
-use Rattle.std.specs.Option.{is_some, is_none, option_map, option_to_list, option_and_then, unwrap_or}
-use Rattle.fleet_base.specs.Lists.{robots_of}
+use Rattle.std.specs.Option.{is_some, is_none, option_map, option_and_then, unwrap_or}
 use Rattle.fleet_base.specs.declared.entries.Act.{Act}
 use Rattle.fleet_base.specs.declared.entries.Act.TheVariants.{Merged, Deferred, Retried, Canceled, Withdrawn, Replanned, Reported}
 use Rattle.fleet_base.specs.declared.entries.Entry.{Entry}
 use Rattle.fleet_base.specs.declared.answers.Block.{Block}
-use Rattle.fleet_base.specs.declared.answers.CancelRefused.TheVariants as cancel_refused
 use Rattle.fleet_base.specs.declared.answers.Look.{Look}
-use Rattle.fleet_base.specs.declared.answers.ProposeRefused.TheVariants as propose_refused
-use Rattle.fleet_base.specs.declared.answers.ReplanRefused.TheVariants as replan_refused
-use Rattle.fleet_base.specs.declared.answers.ReportRefused.TheVariants as report_refused
-use Rattle.fleet_base.specs.declared.answers.RetryRefused.TheVariants as retry_refused
 use Rattle.fleet_base.specs.declared.answers.UnknownRobot.{UnknownRobot}
-use Rattle.fleet_base.specs.declared.answers.WithdrawRefused.TheVariants as withdraw_refused
 use Rattle.fleet_base.specs.declared.answers.Withdrawn.{Withdrawn as Removed}
 use Rattle.fleet_base.specs.declared.numbers.CellNo.{CellNo}
-use Rattle.fleet_base.specs.declared.numbers.ClaimNo.{ClaimNo}
 use Rattle.fleet_base.specs.declared.numbers.Event.{Event}
 use Rattle.fleet_base.specs.declared.numbers.EventNo.{EventNo}
-use Rattle.fleet_base.specs.declared.numbers.Kind.{Kind}
-use Rattle.fleet_model.specs.Lists.{In, here, there, when, first_some, least}
+use Rattle.fleet_model.specs.Lists.{In, here, when, first_some}
 use Rattle.fleet_model.specs.Sites.{Site, IsSite, is_linked, IsWalk, IsWalkFrom, needs, steps}
-use Rattle.fleet_model.specs.Plans.{Fleet, own, unfinished, is_done, is_awaited, after, awaited, latest, IsBehind, IsReady, IsRoute, IsBlocker, end_of, merged, numbered, route_events, removable_tail, withdrawn}
+use Rattle.fleet_model.specs.Plans.{Fleet, own, unfinished, is_done, is_awaited, after, awaited, latest, IsBehind, IsReady, IsRoute, end_of, merged, route_events, removable_tail, withdrawn}
 use Rattle.fleet_model.specs.Deferral.{ends, least_blocker}
-use Rattle.fleet_model.specs.States.{State, is_robot, pending_of, pending_route, owed, is_full, cycle_of, block_of}
-use Rattle.fleet_model.specs.Calls.{Step, unless, unless_refused, propose_refusals, retry_refusals, cancel_refusals, withdraw_refusals, replan_refusals, report_refusals, accepted, moved, with_route, deferring, first_of, first_unlinked, unlinked_at, begin_at, propose_growth, propose_outcome, propose, detour_of, next_event, waits_on, is_number, reported, span_of, retry, cancel, withdraw, replan, report, look_of, Call, Propose, Retry, Cancel, Withdraw, Replan, Report, LookAt, Turn, turn, has_cell}
+use Rattle.fleet_model.specs.States.{State, is_robot, pending_of, pending_route, owed, is_full, block_of}
+use Rattle.fleet_model.specs.Calls.{Step, unless, unless_refused, propose_refusals, retry_refusals, cancel_refusals, withdraw_refusals, replan_refusals, report_refusals, accepted, moved, with_route, deferring, first_of, first_unlinked, unlinked_at, begin_at, propose_growth, propose_outcome, propose, detour_of, next_event, waits_on, is_number, reported, span_of, retry, cancel, withdraw, replan, report, look_of, Call, Propose, Retry, Cancel, Withdraw, Replan, Report, LookAt, turn, has_cell}
 use Rattle.fleet_model.specs.Good.{IsAscending, IsGoodPlan, IsGood}
-use Rattle.fleet_model.proofs.Lists.{In-nil, In_either, In-append_right, In-filter, In_unfilter}
+use Rattle.fleet_model.proofs.Lists.{In-nil, In_either, In-append_right, In-filter, In_unfilter, length_In, some_one}
+use Rattle.fleet_model.proofs.Options.{not_none, none_of, map_none, map_some, when_none}
+use Rattle.fleet_model.proofs.SameNumbers.{same_cell, same_number}
 use Rattle.fleet_model.proofs.Numbers.{from_one, IsAscending-own, IsAscending-filter, own_In, In_own, low_bound, done_in, done_right, done_parts}
-use Rattle.fleet_model.proofs.Counts.{emptied_le, emptied_less, filled_le, filter_le, filter_less, filter_misses}
 use Rattle.fleet_model.proofs.Leasts.{least_none}
 use Rattle.fleet_model.proofs.Detours.{detour_route, detour_free}
 use Rattle.fleet_model.proofs.Tails.{tail_is}
 use Rattle.fleet_model.proofs.Blockers.{none_unblocked, found_blocks}
 use Rattle.fleet_model.proofs.Deferrals.{pending_is}
-use Rattle.fleet_model.proofs.Further.{filter_swap}
-
--- what an accepted call did: it put a route into the plan, kept one as pending, dropped the pending one, cut the removable tail, or finished an event
-pub data Change : Type 0 where
-  Grew : List CellNo → Change
-  Kept : List CellNo → Change
-  Dropped : Change
-  Cut : Change
-  Did : Event → Change
-
-abbrev pub changed : State → ℕ → Change → State
-changed s r (Grew route) = with_route s r route
-changed s r (Kept route) = deferring s r route
-changed s r Dropped = moved s s.fleet r None
-changed s r Cut = moved s (withdrawn s.fleet (removable_tail s.fleet r)) r None
-changed s r (Did e) = record s { fleet = reported s.fleet (Some e); count = s.count + 1 }
-
-abbrev pub HasStart : Fleet → ℕ → Type 0
-HasStart m r = (a : CellNo) × (slice_get m.starts r ≡ Some a)
-
-abbrev pub IsClear : Fleet → ℕ → List CellNo → Type 0
-IsClear m r route = (c : ClaimNo) (q : ℕ) → IsBlocker m r route c q → ⊥
-
--- where the change can be made
-abbrev pub CanChange : State → ℕ → Change → Type 0
-CanChange s r (Grew route) = HasStart s.fleet r × IsRoute s.fleet r route × IsClear s.fleet r route
-CanChange s r (Kept route) = (pending_of s r ≡ None) × IsRoute s.fleet r route × ((c : ClaimNo) × (q : ℕ) × IsBlocker s.fleet r route c q)
-CanChange s r Dropped = (route : List CellNo) × (pending_of s r ≡ Some route)
-CanChange s r Cut = 1 ≤ length (removable_tail s.fleet r)
-CanChange s r (Did e) = (e.robot.0 ≡ r) × IsReady (IsBehind s.fleet.site) s.fleet.plan s.fleet.finished e
-
--- what the entry tells of the change
-abbrev pub Tells : State → ℕ → Change → Act → Type 0
-Tells s r (Grew route) (Merged cells first) = (route ≡ cells) × (pending_of s r ≡ None)
-Tells s r (Grew route) (Retried first) = pending_of s r ≡ Some route
-Tells s r (Grew route) (Replanned cells first) = (route ≡ cells) × ((old : List CellNo) × (pending_of s r ≡ Some old))
-Tells s r (Kept route) (Deferred cells cycle) = (route ≡ cells) × (cycle ≡ robots_of (cycle_of (deferring s r route) r))
-Tells s r Dropped Canceled = Unit {0}
-Tells s r Cut (Withdrawn removed end) = Unit {0}
-Tells s r (Did e) (Reported event) = e.no ≡ event
-Tells s r _ _ = ⊥
-
--- all that is known of an accepted call
-pub record Accepts (s : State) (r : ℕ) (entry : Entry) (after : State) : Type 0 where
-  pub change : Change
-  pub can : CanChange s r change
-  pub room : s.count + 1 + owed (changed s r change) ≤ s.cap
-  pub after_is : after ≡ changed s r change
-  pub robot : entry.robot.0 ≡ r
-  pub tells : Tells s r change entry.act
+use Rattle.fleet_model.proofs.Pending.{emptied_le, emptied_less, filled_le}
+use Rattle.fleet_model.proofs.Filters.{filter_less, filter_misses, filter_swap, length-filter-le}
+use Rattle.fleet_model.proofs.Numbered.{length-numbered}
+use Rattle.fleet_model.proofs.Changes.{HasStart, IsClear, Tells, Accepts, Grew, Kept, Dropped, Cut, Did}
+use Rattle.fleet_base.specs.declared.answers.ReplanRefused.{ReplanRefused}
+use Rattle.fleet_base.specs.declared.numbers.Span.{Span}
+use Rattle.fleet_base.specs.declared.answers.CancelRefused.TheVariants as cancel_refused
+use Rattle.fleet_base.specs.declared.answers.ProposeRefused.TheVariants as propose_refused
+use Rattle.fleet_base.specs.declared.answers.ReplanRefused.TheVariants as replan_refused
+use Rattle.fleet_base.specs.declared.answers.ReportRefused.TheVariants as report_refused
+use Rattle.fleet_base.specs.declared.answers.RetryRefused.TheVariants as retry_refused
+use Rattle.fleet_base.specs.declared.answers.WithdrawRefused.TheVariants as withdraw_refused
 
 -- none of these is there
-abbrev AllNone : {A : Type 0} → List (Option A) → Type 0
+abbrev pub AllNone : {A : Type 0} → List (Option A) → Type 0
 AllNone [] = Unit {0}
 AllNone (o ∷ os) = (o ≡ None) × AllNone os
 
+-- where no value is first, none is there
 all_none : {A : Type 0} (os : List (Option A)) → first_some os ≡ None → AllNone os
 all_none [] h = tt
 all_none (None ∷ os) h = (refl, all_none os h)
 all_none (Some x ∷ os) h = absurd (cc)
 
+-- a step with an entry was not refused, and is the step itself
 unless_cases : {A E : Type 0} (o : Option E) (s : State) (step : Step A E) (entry : Entry) → (unless_refused o s step).entry ≡ Some entry → (o ≡ None) × (step.entry ≡ Some entry) × (unless_refused o s step ≡ step)
 unless_cases None s step entry h = (refl, h, refl)
 unless_cases (Some e) s step entry h = absurd (cc)
 
 -- a call that adds an entry wasn't refused
-record IsAccepted {A E : Type 0} (refusals : List (Option E)) (s : State) (step : Step A E) (entry : Entry) : Type 0 where
-  none : AllNone refusals
-  told : step.entry ≡ Some entry
-  is : unless refusals s step ≡ step
+pub record IsAccepted {A E : Type 0} (refusals : List (Option E)) (s : State) (step : Step A E) (entry : Entry) : Type 0 where
+  pub none : AllNone refusals
+  pub told : step.entry ≡ Some entry
+  pub is : unless refusals s step ≡ step
 
-unless_accepted : {A E : Type 0} (refusals : List (Option E)) (s : State) (step : Step A E) (entry : Entry) → (unless refusals s step).entry ≡ Some entry → IsAccepted refusals s step entry
+-- a call that adds an entry was not refused, for no reason of the list
+pub unless_accepted : {A E : Type 0} (refusals : List (Option E)) (s : State) (step : Step A E) (entry : Entry) → (unless refusals s step).entry ≡ Some entry → IsAccepted refusals s step entry
 unless_accepted refusals s step entry h =
     let u = unless_cases (first_some refusals) s step entry h in
     record { none = all_none refusals u.0; told = u.1; is = u.2 }
 
-when_none : {A : Type 0} (b : Bool) (x : A) → when b x ≡ None → b ≡ false
-when_none true x h = absurd (cc)
-when_none false x h = refl
-
-map_none : {A B : Type 0} (f : A → B) (o : Option A) → option_map f o ≡ None → o ≡ None
-map_none f None h = refl
-map_none f (Some x) h = absurd (cc)
-
-some_of : {A : Type 0} (o : Option A) → is_none o ≡ false → (x : A) × (o ≡ Some x)
-some_of None h = absurd (both_ways true h refl)
-some_of (Some x) h = (x, refl)
-
-none_of : {A : Type 0} (o : Option A) → is_some o ≡ false → o ≡ None
-none_of None h = refl
-none_of (Some x) h = absurd (both_ways true h refl)
-
-pub same_cell : (a b : CellNo) → a.0 ≡ b.0 → a ≡ b
-same_cell a b p = λ i. record { 0 = p i }
-
+-- each number below the count of the starts has one
 pub start_of : (starts : List CellNo) (r : ℕ) → r < length starts → (a : CellNo) × (slice_get starts r ≡ Some a)
 start_of [] r h = absurd (omega arith)
 start_of (a ∷ rest) zero h = (a, refl)
 start_of (a ∷ rest) (suc r) h = start_of rest r (omega arith)
 
+-- where the refusal of an unknown robot doesn't fit, the robot has a start
+robot_start : {E : Type 0} (s : State) (r : ℕ) (e : E) → when (not (is_robot s r)) e ≡ None → HasStart s.fleet r
+robot_start s r e h = start_of s.fleet.starts r (ltb-true r (length s.fleet.starts) (not-false (is_robot s r) (when_none (not (is_robot s r)) e h)))
+
+-- where the refusal for want of a pending route doesn't fit, one is pending
+pending_there : {E : Type 0} (s : State) (r : ℕ) (e : E) → when (is_none (pending_of s r)) e ≡ None → (old : List CellNo) × (pending_of s r ≡ Some old)
+pending_there s r e h = not_none (pending_of s r) (when_none (is_none (pending_of s r)) e h)
+
+-- where no missing link is found from a cell on, the cells are a walk from it
 linked_walk : (site : Site) (at : ℕ) (a : CellNo) (bs : List CellNo) → first_unlinked site at a bs ≡ None → IsWalkFrom site a bs
 linked_walk site at a [] h = tt
 linked_walk site at a (b ∷ bs) h =
     let p = all_none (when (not (is_linked site a b)) at ∷ first_unlinked site (at + 1) b bs ∷ []) h in
     (not-false (is_linked site a b) (when_none (not (is_linked site a b)) at p.0), linked_walk site (at + 1) b bs p.1.0)
 
+-- where no missing link is found, the cells are a walk
 linked_all : (site : Site) (cells : List CellNo) → unlinked_at site cells ≡ None → IsWalk site cells
 linked_all site [] h = tt
 linked_all site (a ∷ bs) h = linked_walk site 1 a bs h
 
+-- a route that begins at the cell, by the test, has it as its first cell
 begins_there : (a : CellNo) (cells : List CellNo) → begin_at a cells ≡ true → slice_get cells 0 ≡ Some a
 begins_there a [] h = absurd (both_ways false refl h)
 begins_there a (b ∷ bs) h = ap (λ c. Some c) (sym (same_cell a b (eqb-true a.0 b.0 h)))
 
 -- what holds where no refusal of a proposal fits
 record IsProposal (s : State) (r : ℕ) (cells : List CellNo) (block : Option Block) : Type 0 where
-  known : is_robot s r ≡ true
+  start : HasStart s.fleet r
   none : pending_of s r ≡ None
   route : IsRoute s.fleet r cells
   room : is_full s (propose_growth s cells block) ≡ false
 
+-- a proposal that no refusal fits is of a robot with nothing pending, by a legal route, and has room
 proposal : (s : State) (r : ℕ) (cells : List CellNo) (block : Option Block) → AllNone (propose_refusals s r cells block) → IsProposal s r cells block
 proposal s r cells block none = record {
-  known = not-false (is_robot s r) (when_none (not (is_robot s r)) propose_refused.UnknownRobot none.0);
+  start = robot_start s r propose_refused.UnknownRobot none.0;
   none = none_of (pending_of s r) (when_none (is_some (pending_of s r)) propose_refused.HasPending none.1.0);
   route = record {
     long = ltb-false (length cells) 2 (when_none (nat_lt (length cells) 2) propose_refused.Short none.1.1.0);
@@ -176,30 +126,12 @@ proposal s r cells block none = record {
   room = when_none (is_full s (propose_growth s cells block)) propose_refused.Full none.1.1.1.1.1.1.1.0;
 }
 
-map_some : {A B : Type 0} {f : A → B} (o : Option A) (y : B) → option_map f o ≡ Some y → (x : A) × (o ≡ Some x) × (f x ≡ y)
-map_some None y h = absurd (cc)
-map_some {f = f} (Some x) y h = (x, refl, same_Some (f x) y h)
-
-pub length-numbered : (n r : ℕ) (ks : List Kind) → length (numbered n r ks) ≡ length ks
-length-numbered n r [] = refl
-length-numbered n r (k ∷ ks) = ap (λ m. suc m) (length-numbered (n + 1) r ks)
-
-filter_length : (p : Event → Bool) (es : List Event) → length (filter p es) ≤ length es
-filter_length p es = omega (arith, length-filter p es, count_by-le-length p es)
-
 -- what an accepted call's entry tells
-told : (r : ℕ) (act : Act) (entry : Entry) → Some (record { robot = record { 0 = r }; act = act }) ≡ Some entry → (entry.robot.0 ≡ r) × (entry.act ≡ act)
+pub told : (r : ℕ) (act : Act) (entry : Entry) → Some (record { robot = record { 0 = r }; act = act }) ≡ Some entry → (entry.robot.0 ≡ r) × (entry.act ≡ act)
 told r act entry h = let e = same_Some (record { robot = record { 0 = r }; act = act }) entry h in (ap (λ (x : Entry). x.robot.0) (sym e), ap (λ (x : Entry). x.act) (sym e))
 
-length_In : {A : Type 0} (xs : List A) (x : A) → In x xs → 1 ≤ length xs
-length_In [] x m = elim m [ ]
-length_In (y ∷ ys) x m = omega arith
-
-pub same_number : (a b : EventNo) → a.0 ≡ b.0 → a ≡ b
-same_number a b p = λ i. record { 0 = p i }
-
 -- a report leaves one unfinished event less
-done_fewer : (m : Fleet) (e : Event) → IsReady (IsBehind m.site) m.plan m.finished e → length (unfinished (reported m (Some e))) + 1 ≤ length (unfinished m)
+done_fewer : (m : Fleet) (e : Event) → IsReady (IsBehind m.site.groups) m.plan m.finished e → length (unfinished (reported m (Some e))) + 1 ≤ length (unfinished m)
 done_fewer m e ready =
     filter_less (λ f. not (is_done (m.finished ++ e ∷ []) f)) (λ f. not (is_done m.finished f)) m.plan e
     (λ f i h. not_from_false (is_done m.finished f) (done_parts m.finished (e ∷ []) f (not-true (is_done (m.finished ++ e ∷ []) f) h)).0)
@@ -222,7 +154,7 @@ unfinished-merged : (m : Fleet) (r : ℕ) (route : List CellNo) → length (unfi
 unfinished-merged m r route =
     let undone : Event → Bool = λ e. not (is_done m.finished e) in
     let parts = ap length (filter-append undone m.plan (route_events m r route)) ∙ length-append (filter undone m.plan) (filter undone (route_events m r route)) in
-    let few = filter_length undone (route_events m r route) in
+    let few = length-filter-le undone (route_events m r route) in
     let all = length-numbered m.next r (steps m.site route) in
     omega arith
 
@@ -239,15 +171,12 @@ accepts_propose s r cells entry h = go (block_of (deferring s r cells) r cells) 
     facts : IsProposal s r cells blocked
     facts = proposal s r cells blocked is.none
 
-    start : HasStart s.fleet r
-    start = start_of s.fleet.starts r (ltb-true r (length s.fleet.starts) facts.known)
-
     go : (o : Option Block) → blocked ≡ o → Accepts s r entry (propose s r cells).after
     go None e =
         let t = told r (Merged cells (first_of s)) entry (subst (λ o. (propose_outcome s r cells o).entry ≡ Some entry) e is.told) in
         record {
           change = Grew cells;
-          can = (start, facts.route, none_unblocked s.fleet r cells (map_none _ (least_blocker s.fleet.site (ends s.fleet) r (needs s.fleet.site cells)) e));
+          can = (facts.start, facts.route, none_unblocked s.fleet r cells (map_none _ (least_blocker s.fleet.site (ends s.fleet) r (needs s.fleet.site cells)) e));
           room = (
               let free = ltb-false s.cap (s.count + owed s + (1 + length (steps s.fleet.site cells))) (subst (λ o. is_full s (propose_growth s cells o) ≡ false) e facts.room) in
               let some = unfinished-merged s.fleet r cells in
@@ -284,7 +213,7 @@ joined_room s r route old pends free =
 pub accepts_retry : (s : State) (r : ℕ) (entry : Entry) → IsGood s → (retry s r).entry ≡ Some entry → Accepts s r entry (retry s r).after
 accepts_retry s r entry good h = record {
   change = Grew route;
-  can = (start_of s.fleet.starts r (ltb-true r (length s.fleet.starts) (not-false (is_robot s r) (when_none (not (is_robot s r)) retry_refused.UnknownRobot is.none.0))), subst (λ x. IsRoute s.fleet r x) (sym (pending_is s r pends.0 pends.1)) (good.routes r pends.0 pends.1), clear);
+  can = (robot_start s r retry_refused.UnknownRobot is.none.0, subst (λ x. IsRoute s.fleet r x) (sym (pending_is s r pends.0 pends.1)) (good.routes r pends.0 pends.1), clear);
   room = joined_room s r route pends.0 pends.1 (when_none (is_full s (length (steps s.fleet.site route))) retry_refused.Full is.none.1.1.1.0);
   after_is = ap (λ x. x.after) is.is;
   robot = t.0;
@@ -298,7 +227,7 @@ accepts_retry s r entry good h = record {
     is = unless_accepted (retry_refusals s r route) s (accepted (span_of s route) r (Retried (first_of s)) (with_route s r route)) entry h
 
     pends : (old : List CellNo) × (pending_of s r ≡ Some old)
-    pends = some_of (pending_of s r) (when_none (is_none (pending_of s r)) retry_refused.NoPending is.none.1.0)
+    pends = pending_there s r retry_refused.NoPending is.none.1.0
 
     clear : IsClear s.fleet r route
     clear = none_unblocked s.fleet r route (map_none _ (least_blocker s.fleet.site (ends s.fleet) r (needs s.fleet.site route)) (map_none (λ block. retry_refused.StillDeferred block) (block_of s r route) is.none.1.1.0))
@@ -306,14 +235,15 @@ accepts_retry s r entry good h = record {
     t : (entry.robot.0 ≡ r) × (entry.act ≡ Retried (first_of s))
     t = told r (Retried (first_of s)) entry is.told
 
-abbrev nothing : Unit {0}
+-- the answer of a call that tells nothing more
+abbrev pub nothing : Unit {0}
 nothing = tt
 
 -- an accepted cancel
 pub accepts_cancel : (s : State) (r : ℕ) (entry : Entry) → IsGood s → (cancel s r).entry ≡ Some entry → Accepts s r entry (cancel s r).after
 accepts_cancel s r entry good h =
     let is = unless_accepted (cancel_refusals s r) s (accepted nothing r Canceled (moved s s.fleet r None)) entry h in
-    let pends = some_of (pending_of s r) (when_none (is_none (pending_of s r)) cancel_refused.NoPending is.none.1.0) in
+    let pends = pending_there s r cancel_refused.NoPending is.none.1.0 in
     let t = told r Canceled entry is.told in
     record {
       change = Dropped;
@@ -324,42 +254,48 @@ accepts_cancel s r entry good h =
       tells = subst (λ a. Tells s r Dropped a) (sym t.1) tt;
     }
 
+-- what holds where a replan was accepted: it found this detour, and no refusal fits
+pub record IsReplanned (s : State) (r : ℕ) (goal : CellNo → Bool) (entry : Entry) : Type 0 where
+  pub route : List CellNo
+  pub found : detour_of s.fleet r goal ≡ Some route
+  pub none : AllNone (replan_refusals s r goal (Some route))
+  pub robot : entry.robot.0 ≡ r
+  pub act : entry.act ≡ Replanned route (first_of s)
+  pub is : replan s r goal ≡ accepted (span_of s route) r (Replanned route (first_of s)) (with_route s r route)
+
+-- an accepted replan found a detour
+pub replanned : (s : State) (r : ℕ) (goal : CellNo → Bool) (entry : Entry) → (replan s r goal).entry ≡ Some entry → IsReplanned s r goal entry
+replanned s r goal entry h = go (detour_of s.fleet r goal) refl
+  where
+    done : List CellNo → Step Span ReplanRefused
+    done route = accepted (span_of s route) r (Replanned route (first_of s)) (with_route s r route)
+
+    go : (o : Option (List CellNo)) → detour_of s.fleet r goal ≡ o → IsReplanned s r goal entry
+    go o e = at o e (unless_accepted (replan_refusals s r goal o) s (done (unwrap_or o [])) entry (subst (λ x. (unless (replan_refusals s r goal x) s (done (unwrap_or x []))).entry ≡ Some entry) e h))
+      where
+        at : (o : Option (List CellNo)) → detour_of s.fleet r goal ≡ o → IsAccepted (replan_refusals s r goal o) s (done (unwrap_or o [])) entry → IsReplanned s r goal entry
+        at None e is = absurd (let n = is.none.1.1.1.0 in cc)
+        at (Some route) e is =
+            let t = told r (Replanned route (first_of s)) entry is.told in
+            record { route = route; found = e; none = is.none; robot = t.0; act = t.1; is = ap (λ x. unless (replan_refusals s r goal x) s (done (unwrap_or x []))) e ∙ is.is }
+
 -- an accepted replan
 pub accepts_replan : (s : State) (r : ℕ) (goal : CellNo → Bool) (entry : Entry) → IsSite s.fleet.site → (replan s r goal).entry ≡ Some entry → Accepts s r entry (replan s r goal).after
-accepts_replan s r goal entry is_site h = record {
-  change = Grew route;
-  can = (
-    start_of s.fleet.starts r (ltb-true r (length s.fleet.starts) (not-false (is_robot s r) (when_none (not (is_robot s r)) replan_refused.UnknownRobot is.none.0))),
-    subst (λ x. IsRoute s.fleet r x) (sym route_is) (detour_route s.fleet r goal found.0 is_site (when_none (goal (end_of s.fleet r)) replan_refused.AtGoal is.none.1.1.0) found.1),
-    subst (λ x. IsClear s.fleet r x) (sym route_is) (detour_free s.fleet r goal is_site found.0 found.1),
-  );
-  room = joined_room s r route pends.0 pends.1 (when_none (is_full s (length (steps s.fleet.site route))) replan_refused.Full is.none.1.1.1.1.0);
-  after_is = ap (λ x. x.after) is.is;
-  robot = t.0;
-  tells = subst (λ a. Tells s r (Grew route) a) (sym t.1) (refl, pends);
-}
-  where
-    route : List CellNo
-    route = unwrap_or (detour_of s.fleet r goal) []
-
-    is : IsAccepted (replan_refusals s r goal (detour_of s.fleet r goal)) s (accepted (span_of s route) r (Replanned route (first_of s)) (with_route s r route)) entry
-    is = unless_accepted (replan_refusals s r goal (detour_of s.fleet r goal)) s (accepted (span_of s route) r (Replanned route (first_of s)) (with_route s r route)) entry h
-
-    pends : (old : List CellNo) × (pending_of s r ≡ Some old)
-    pends = some_of (pending_of s r) (when_none (is_none (pending_of s r)) replan_refused.NoPending is.none.1.0)
-
-    found : (detour : List CellNo) × (detour_of s.fleet r goal ≡ Some detour)
-    found = some_of (detour_of s.fleet r goal) (when_none (is_none (detour_of s.fleet r goal)) replan_refused.NoDetour is.none.1.1.1.0)
-
-    route_is : route ≡ found.0
-    route_is = ap (λ o. unwrap_or o []) found.1
-
-    t : (entry.robot.0 ≡ r) × (entry.act ≡ Replanned route (first_of s))
-    t = told r (Replanned route (first_of s)) entry is.told
-
-some_one : {A : Type 0} (xs : List A) → (length xs == 0) ≡ false → (x : A) × In x xs
-some_one [] h = absurd (both_ways true h refl)
-some_one (x ∷ xs) h = (x, here refl)
+accepts_replan s r goal entry is_site h =
+    let p = replanned s r goal entry h in
+    let pends = pending_there s r replan_refused.NoPending p.none.1.0 in
+    record {
+      change = Grew p.route;
+      can = (
+        robot_start s r replan_refused.UnknownRobot p.none.0,
+        detour_route s.fleet r goal p.route is_site (when_none (goal (end_of s.fleet r)) replan_refused.AtGoal p.none.1.1.0) p.found,
+        detour_free s.fleet r goal is_site p.route p.found,
+      );
+      room = joined_room s r p.route pends.0 pends.1 (when_none (is_full s (length (steps s.fleet.site p.route))) replan_refused.Full p.none.1.1.1.1.0);
+      after_is = ap (λ x. x.after) p.is;
+      robot = p.robot;
+      tells = subst (λ a. Tells s r (Grew p.route) a) (sym p.act) (refl, pends);
+    }
 
 -- an accepted withdrawal
 pub accepts_withdraw : (s : State) (r : ℕ) (entry : Entry) → IsGood s → (withdraw s r).entry ≡ Some entry → Accepts s r entry (withdraw s r).after
@@ -403,7 +339,7 @@ next_is m r e h = at_front (own r (unfinished m)) h
     at_front (f ∷ fs) h = (fs, ap (λ x. x ∷ fs) (same_Some f e h))
 
 -- the next event of a robot that waits for nothing is ready
-pub next_ready : (m : Fleet) (r : ℕ) (e : Event) → IsGoodPlan m → next_event m r ≡ Some e → waits_on m e ≡ None → (e.robot.0 ≡ r) × IsReady (IsBehind m.site) m.plan m.finished e
+pub next_ready : (m : Fleet) (r : ℕ) (e : Event) → IsGoodPlan m → next_event m r ≡ Some e → waits_on m e ≡ None → (e.robot.0 ≡ r) × IsReady (IsBehind m.site.groups) m.plan m.finished e
 next_ready m r e good h none = (of_robot.1, record { planned = planned.0; undone = not-true (is_done m.finished e) planned.1; waited = λ f i b. waited f i b (cases_Bool (is_done m.finished f)) })
   where
     undone : Event → Bool
@@ -424,14 +360,14 @@ next_ready m r e good h none = (of_robot.1, record { planned = planned.0; undone
     none_awaited : awaited m e ≡ []
     none_awaited = least_none (λ (x y : Event). nat_le y.no.0 x.no.0) (awaited m e) (map_none (λ (f : Event). f.no) (latest (awaited m e)) none)
 
-    waited : (f : Event) → In f m.plan → IsBehind m.site e f → (is_done m.finished f ≡ true) ⊎ (is_done m.finished f ≡ false) → is_done m.finished f ≡ true
+    waited : (f : Event) → In f m.plan → IsBehind m.site.groups e f → (is_done m.finished f ≡ true) ⊎ (is_done m.finished f ≡ false) → is_done m.finished f ≡ true
     waited f i b (inl d) = d
     waited f i (inl b) (inr d) =
         let left = In-filter undone m.plan i (not_from_false (is_done m.finished f) d) in
         let at = subst (λ es. In f es) first.1 (In_own r (unfinished m) left (b.0 ∙ of_robot.1)) in
         In_either at (λ k. let n = ap (λ (x : Event). x.no.0) k in let l = b.1 in absurd (omega arith)) (λ k. let n = low_bound (e.no.0 + 1) first.0 rises.1 k in let l = b.1 in absurd (omega arith))
     waited f i (inr b) (inr d) =
-        absurd (In-nil (subst (λ es. In f es) none_awaited (In-filter undone (after m.site m.plan e) (In-filter (is_awaited m.site e) m.plan i b) (not_from_false (is_done m.finished f) d))))
+        absurd (In-nil (subst (λ es. In f es) none_awaited (In-filter undone (after m.site.groups m.plan e) (In-filter (is_awaited m.site.groups e) m.plan i b) (not_from_false (is_done m.finished f) d))))
 
 -- an accepted report
 pub accepts_report : (s : State) (r : ℕ) (n : EventNo) (entry : Entry) → IsGood s → (report s r n).entry ≡ Some entry → Accepts s r entry (report s r n).after
@@ -466,7 +402,7 @@ accepts_report s r n entry good h = go (next_event s.fleet r) refl
         }
 
 -- a look adds no entry
-no_entry : (s : State) (r : ℕ) (b : Bool) (refused : UnknownRobot) (entry : Entry) → (unless {A = Look} (when b refused ∷ []) s (record { answer = Ok (look_of s r); entry = None; after = s })).entry ≡ Some entry → ⊥
+pub no_entry : (s : State) (r : ℕ) (b : Bool) (refused : UnknownRobot) (entry : Entry) → (unless {A = Look} (when b refused ∷ []) s (record { answer = Ok (look_of s r); entry = None; after = s })).entry ≡ Some entry → ⊥
 no_entry s r true refused entry e = absurd (cc)
 no_entry s r false refused entry e = absurd (cc)
 

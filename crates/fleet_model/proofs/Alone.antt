@@ -1,6 +1,6 @@
--- A replay, robot by robot.
+-- A replay, robot by robot: what a robot holds depends on its own events alone.
 use Rattle.std.proofs.Common.{◌≡◌, ℕ, ◌+◌, ◌<◌, Bool, true, false, cond, not, ◌==◌, ◌⊎◌, inl, inr, refl, sym, ap, ◌∙◌, List, [], ◌∷◌, ◌++◌, map, arith, eq-eqb}
-use Rattle.std.proofs.lemmas.Bool.{eqb-true, or_cases, and_parts, both_ways, not-true}
+use Rattle.std.proofs.lemmas.Bool.{or_cases, and_parts, both_ways, not-true}
 use Rattle.fleet_base.specs.declared.numbers.ClaimNo.{ClaimNo}
 use Rattle.fleet_base.specs.declared.numbers.Event.{Event}
 use Rattle.fleet_base.specs.declared.numbers.Kind.{Kind}
@@ -11,6 +11,7 @@ use Rattle.fleet_model.specs.Replays.{Spot, Spots, CanDo, CanDoAll, IsFree, IsLe
 use Rattle.fleet_model.specs.Plans.{own, kinds}
 use Rattle.fleet_model.specs.Good.{IsAscending}
 use Rattle.fleet_model.proofs.Lists.{In_either}
+use Rattle.fleet_model.proofs.SameNumbers.{same_claim}
 use Rattle.fleet_model.proofs.Numbers.{low_bound}
 
 one_spot : (s : Spot) (e : Event) (es : List Event) (b : Bool) → after_kinds (cond b (after_kind e.kind s) s) (map (λ (x : Event). x.kind) es) ≡ after_kinds s (map (λ (x : Event). x.kind) (cond b (e ∷ es) es))
@@ -49,9 +50,6 @@ pub legal_at : (site : Site) (spots : Spots) (before : List Event) (e : Event) (
     → CanDo site (replay spots before e.robot.0) e.kind × IsFree site (replay spots before) e.robot.0 e.kind
 legal_at site spots [] e behind h = (h.0, h.1)
 legal_at site spots (x ∷ before) e behind h = legal_at site (after_event x spots) before e behind h.2
-
-pub same_claim : (c d : ClaimNo) → (c.0 == d.0) ≡ true → c ≡ d
-same_claim c d h = let p = eqb-true c.0 d.0 h in λ i. record { 0 = p i }
 
 -- what is held now was acquired now, or was held before and is not released now
 pub held_before : (k : Kind) (s : Spot) (d : ClaimNo) → (after_kind k s).holds d ≡ true → (k ≡ Acquire d) ⊎ ((s.holds d ≡ true) × (k ≡ Release d → ⊥))

@@ -1,21 +1,21 @@
 -- The list of a route's blockers holds just the blockers, and the least of it is the least blocker.
-use Rattle.std.proofs.Common.{◌≡◌, ℕ, ◌<◌, ◌≤◌, true, false, not, ◌&&◌, ◌==◌, ◌⊎◌, inl, inr, refl, sym, ap, ◌∙◌, subst, List, [], ◌∷◌, length, Option, Some, None, get_or, arith, eq-eqb}
-use Rattle.std.proofs.lemmas.Bool.{both_ways, and_parts, and_from, not-true, not_from_false, eqb-true, eqb-false, ne_eqb, leb-true, leb-false, le-leb, cases_lt}
+use Rattle.std.proofs.Common.{◌≡◌, ℕ, ◌<◌, ◌≤◌, true, false, not, ◌&&◌, ◌==◌, ◌⊎◌, inl, inr, refl, sym, ap, ◌∙◌, subst, List, length, Option, Some, None, get_or, arith, eq-eqb}
+use Rattle.std.proofs.lemmas.Bool.{both_ways, and_parts, and_from, not-true, not_from_false, eqb-false, ne_eqb, leb-true, leb-false, le-leb, cases_lt}
 use Rattle.std.proofs.lemmas.Option.{slice_get-get_or, slice_get_past, slice_get_within, same_Some}
 use Rattle.std.proofs.lemmas.List.FromFn.{get_or-map-range_with_len, length-map-range_with_len}
 use Rattle.std.specs.Prelude.{nat_le, slice_get}
 use Rattle.fleet_base.specs.declared.numbers.CellNo.{CellNo}
 use Rattle.fleet_base.specs.declared.numbers.ClaimNo.{ClaimNo}
-use Rattle.fleet_base.specs.declared.numbers.Kind.{Kind}
-use Rattle.fleet_base.specs.declared.numbers.Kind.TheVariants.{Acquire, Move, Release}
-use Rattle.fleet_model.specs.Lists.{In, here, there, pairs, numbers_below}
-use Rattle.fleet_model.specs.Sites.{in_conflict, footprint_of, has_claim, acquired, steps, needs}
+use Rattle.fleet_model.specs.Lists.{In, pairs, numbers_below}
+use Rattle.fleet_model.specs.Sites.{in_conflict, footprint_of, has_claim, steps, needs}
 use Rattle.fleet_model.specs.Plans.{Fleet, end_of, IsBlocker}
 use Rattle.fleet_model.specs.Deferral.{ends, is_kept_by, blockers, block_precedes, least_blocker}
-use Rattle.fleet_model.proofs.Lists.{In-nil, In-filter, In_unfilter}
+use Rattle.fleet_model.proofs.Lists.{In-nil, In-filter, In_unfilter, In_below, In_pairs, pairs_In}
 use Rattle.fleet_model.proofs.Leasts.{least_none, least_in, least_first}
-use Rattle.fleet_model.proofs.Anys.{any_In, In_any, In_below, In_pairs, pairs_In}
-use Rattle.fleet_model.proofs.Cycles.{upto_parts, upto_same, upto_total, upto_trans}
+use Rattle.fleet_model.proofs.Tests.{any_In, In_any}
+use Rattle.fleet_model.proofs.SameNumbers.{same_claim}
+use Rattle.fleet_model.proofs.Dictionary.{upto_parts, upto_same, upto_total, upto_trans}
+use Rattle.fleet_model.proofs.Steps.{acquired_In, In_acquired}
 
 module _ (m : Fleet) where
   -- there is an end for each start
@@ -40,27 +40,6 @@ module _ (m : Fleet) where
       let k : q < length m.starts = omega arith in
       (k, same_Some a (end_of m q) (sym h ∙ ends_get q k))
 
--- a claim that is acquired has a step that acquires it
-pub acquired_In : (ks : List Kind) (c : ClaimNo) → In c (acquired ks) → In (Acquire c) ks
-acquired_In [] c m = elim m [ ]
-acquired_In (Acquire d ∷ ks) c (here e) = here (ap (λ x. Acquire x) e)
-acquired_In (Acquire d ∷ ks) c (there m) = there (acquired_In ks c m)
-acquired_In (Move a b ∷ ks) c m = there (acquired_In ks c m)
-acquired_In (Release d ∷ ks) c m = there (acquired_In ks c m)
-
--- a step that acquires a claim is counted
-pub In_acquired : (ks : List Kind) (c : ClaimNo) → In (Acquire c) ks → In c (acquired ks)
-In_acquired [] c m = elim m [ ]
-In_acquired (Acquire d ∷ ks) c (here e) = here (cc)
-In_acquired (Acquire d ∷ ks) c (there m) = there (In_acquired ks c m)
-In_acquired (Move a b ∷ ks) c (here e) = absurd (cc)
-In_acquired (Move a b ∷ ks) c (there m) = In_acquired ks c m
-In_acquired (Release d ∷ ks) c (here e) = absurd (cc)
-In_acquired (Release d ∷ ks) c (there m) = In_acquired ks c m
-
-same_claim : (c d : ClaimNo) → (c.0 == d.0) ≡ true → c ≡ d
-same_claim c d h = let p = eqb-true c.0 d.0 h in λ i. record { 0 = p i }
-
 -- a claim that a list tests positive for is in it
 pub has_In : (claims : List ClaimNo) (c : ClaimNo) → has_claim claims c ≡ true → In c claims
 has_In claims c h = let r = any_In (λ (d : ClaimNo). d.0 == c.0) claims h in subst (λ x. In x claims) (same_claim r.0 c r.2) r.1
@@ -76,7 +55,7 @@ kept_blocker m r route c q need other kept = go (cases_lt q (length m.starts))
     go : (q < length m.starts) ⊎ (length m.starts ≤ q) → IsBlocker m r route c q
     go (inl l) =
         let h = ap (λ o. is_kept_by m.site c o) (sym (ends_get m q l)) ∙ kept in
-        let d = any_In (λ (d : ClaimNo). in_conflict m.site c d) (footprint_of m.site (end_of m q)) h in
+        let d = any_In (λ (d : ClaimNo). in_conflict m.site.groups c d) (footprint_of m.site (end_of m q)) h in
         record {
           needed = acquired_In (steps m.site route) c need;
           other = eqb-false q r other;
@@ -92,7 +71,7 @@ kept_blocker m r route c q need other kept = go (cases_lt q (length m.starts))
 pub blocker_kept : (m : Fleet) (r : ℕ) (route : List CellNo) (c : ClaimNo) (q : ℕ) → IsBlocker m r route c q → is_kept_by m.site c (slice_get (ends m) q) ≡ true
 blocker_kept m r route c q b =
     ap (λ o. is_kept_by m.site c o) (ends_get m q (slice_get_within m.starts q b.start b.starts))
-    ∙ In_any (λ (d : ClaimNo). in_conflict m.site c d) (footprint_of m.site (end_of m q)) (has_In (footprint_of m.site (end_of m q)) b.claim b.holds) b.conflict
+    ∙ In_any (λ (d : ClaimNo). in_conflict m.site.groups c d) (footprint_of m.site (end_of m q)) (has_In (footprint_of m.site (end_of m q)) b.claim b.holds) b.conflict
 
 -- a blocker is a robot
 pub blocker_below : (m : Fleet) (r : ℕ) (route : List CellNo) (c : ClaimNo) (q : ℕ) → IsBlocker m r route c q → q < length m.starts

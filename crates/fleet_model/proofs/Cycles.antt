@@ -1,102 +1,29 @@
 -- There is one least cycle at most, and the search among all short lists finds it.
-use Rattle.std.proofs.Common.{◌≡◌, ℕ, zero, suc, ◌<◌, ◌≤◌, Bool, true, false, not, ◌&&◌, ◌||◌, ◌==◌, eqb, ◌⊎◌, inl, inr, refl, sym, ap, ◌∙◌, subst, List, [], ◌∷◌, map, length, Option, Some, None, unwrap_or, arith, eq-eqb}
-use Rattle.std.proofs.lemmas.Bool.{both_ways, or_cases, or_parts, or_left, or_right, and_parts, and_from, and_cases, not-true, ltb-true, lt-ltb, eqb-true, eqb-false, ne_eqb, false_from_ne_true, cases_order}
-use Rattle.std.proofs.lemmas.Map.Steps.{length-le_from_distinct_below}
-use Rattle.std.specs.Prelude.{nat_lt}
-use Rattle.std.specs.List.{filter, list_any, IsDistinct, AllByRecursion}
+use Rattle.std.proofs.Common.{◌≡◌, ℕ, zero, suc, ◌<◌, ◌≤◌, Bool, true, false, ◌&&◌, ◌==◌, refl, sym, ap, ◌∙◌, subst, List, [], ◌∷◌, map, length, Option, Some, None, unwrap_or, arith, eq-eqb}
+use Rattle.std.proofs.lemmas.Bool.{both_ways, and_parts, and_from, eqb-true, false_from_ne_true}
+use Rattle.std.specs.List.{filter}
 use Rattle.fleet_model.specs.Lists.{In, here, there, least, numbers_below}
 use Rattle.fleet_model.specs.Cycles.{leads, are_distinct, is_cycle, is_upto, precedes, IsLeastCycle, lists_within, cycle_through}
-use Rattle.fleet_model.proofs.Lists.{In-nil, In_either, In-filter, In_unfilter, In-map}
+use Rattle.fleet_model.proofs.Lists.{In-nil, In_either, In-filter, In_unfilter, In-map, In-flat_map, In_below}
 use Rattle.fleet_model.proofs.Leasts.{least_none, least_in, least_first}
-use Rattle.fleet_model.proofs.Anys.{any_In, In-flat_map, In_below}
-
--- what is in the order is less by the first key, or the same there and in the order by the second
-pub upto_parts : (x y : ℕ) (a : Bool) → (nat_lt x y || ((x == y) && a)) ≡ true → (x < y) ⊎ ((x ≡ y) × (a ≡ true))
-upto_parts x y a h = elim (or_cases (nat_lt x y) ((x == y) && a) h) [ inl l ↦ inl (ltb-true x y l) | inr e ↦ (let p = and_parts (x == y) a e in inr (eqb-true x y p.0, p.1)) ]
-
--- what is less by the first key is in the order
-pub upto_less : (x y : ℕ) (a : Bool) → x < y → (nat_lt x y || ((x == y) && a)) ≡ true
-upto_less x y a h = or_left (nat_lt x y) ((x == y) && a) (lt-ltb x y h)
-
--- what is the same by the first key and in the order by the second is in the order
-pub upto_same : (x y : ℕ) (a : Bool) → x ≡ y → a ≡ true → (nat_lt x y || ((x == y) && a)) ≡ true
-upto_same x y a e h = or_right (nat_lt x y) ((x == y) && a) (and_from (x == y) a (eq-eqb x y e) h)
-
--- what isn't in the order is behind by the first key, or by the second
-pub upto_not : (x y : ℕ) (a : Bool) → (nat_lt x y || ((x == y) && a)) ≡ false → (y < x) ⊎ ((y ≡ x) × (a ≡ false))
-upto_not x y a h = go (cases_order x y) (or_parts (nat_lt x y) ((x == y) && a) h)
-  where
-    go : (x ≡ y) ⊎ ((x < y) ⊎ (y < x)) → (nat_lt x y ≡ false) × (((x == y) && a) ≡ false) → (y < x) ⊎ ((y ≡ x) × (a ≡ false))
-    go (inl e) p = elim (and_cases (x == y) a p.1) [ inl n ↦ absurd (both_ways (x == y) n (eq-eqb x y e)) | inr n ↦ inr (sym e, n) ]
-    go (inr (inl l)) p = absurd (both_ways (nat_lt x y) p.0 (lt-ltb x y l))
-    go (inr (inr l)) p = inl l
-
--- an order by two keys is total where it is so by the second
-pub upto_total : (x y : ℕ) (a b : Bool) → (a ≡ false → b ≡ true) → (nat_lt x y || ((x == y) && a)) ≡ false → (nat_lt y x || ((y == x) && b)) ≡ true
-upto_total x y a b f h = elim (upto_not x y a h) [ inl l ↦ upto_less y x b l | inr e ↦ upto_same y x b e.0 (f e.1) ]
-
--- an order by two keys is transitive where it is so by the second
-pub upto_trans : (x y z : ℕ) (a b c : Bool) → (a ≡ true → b ≡ true → c ≡ true) → (nat_lt x y || ((x == y) && a)) ≡ true → (nat_lt y z || ((y == z) && b)) ≡ true → (nat_lt x z || ((x == z) && c)) ≡ true
-upto_trans x y z a b c f h g = go (upto_parts x y a h) (upto_parts y z b g)
-  where
-    go : (x < y) ⊎ ((x ≡ y) × (a ≡ true)) → (y < z) ⊎ ((y ≡ z) × (b ≡ true)) → (nat_lt x z || ((x == z) && c)) ≡ true
-    go (inl l) (inl k) = upto_less x z c (omega arith)
-    go (inl l) (inr k) = let e = k.0 in upto_less x z c (omega arith)
-    go (inr l) (inl k) = let e = l.0 in upto_less x z c (omega arith)
-    go (inr l) (inr k) = upto_same x z c (l.0 ∙ k.0) (f l.1 k.1)
-
--- of two lists one comes before the other in a dictionary, or they are one
-dictionary_total : (xs ys : List ℕ) → is_upto xs ys ≡ false → is_upto ys xs ≡ true
-dictionary_total [] ys h = absurd (both_ways true h refl)
-dictionary_total (x ∷ xs) [] h = refl
-dictionary_total (x ∷ xs) (y ∷ ys) h = upto_total x y (is_upto xs ys) (is_upto ys xs) (dictionary_total xs ys) h
-
--- each list comes no later than itself
-dictionary_itself : (xs : List ℕ) → is_upto xs xs ≡ true
-dictionary_itself [] = refl
-dictionary_itself (x ∷ xs) = upto_same x x (is_upto xs xs) refl (dictionary_itself xs)
-
--- the order of a dictionary is transitive
-dictionary_trans : (xs ys zs : List ℕ) → is_upto xs ys ≡ true → is_upto ys zs ≡ true → is_upto xs zs ≡ true
-dictionary_trans [] ys zs h g = refl
-dictionary_trans (x ∷ xs) [] zs h g = absurd (both_ways false refl h)
-dictionary_trans (x ∷ xs) (y ∷ ys) [] h g = absurd (both_ways false refl g)
-dictionary_trans (x ∷ xs) (y ∷ ys) (z ∷ zs) h g = upto_trans x y z (is_upto xs ys) (is_upto ys zs) (is_upto xs zs) (dictionary_trans xs ys zs) h g
+use Rattle.fleet_model.proofs.Dictionary.{upto_same, upto_total, upto_trans, upto_one, is_upto_total, is_upto_itself, is_upto_trans, is_upto_one}
+use Rattle.fleet_model.proofs.Distinct.{distinct_length}
 
 -- of two lists one precedes the other
 pub precedes_total : (xs ys : List ℕ) → precedes xs ys ≡ false → precedes ys xs ≡ true
-precedes_total xs ys h = upto_total (length xs) (length ys) (is_upto xs ys) (is_upto ys xs) (dictionary_total xs ys) h
+precedes_total xs ys h = upto_total (length xs) (length ys) (is_upto xs ys) (is_upto ys xs) (is_upto_total xs ys) h
 
 -- each list precedes itself
 pub precedes_itself : (xs : List ℕ) → precedes xs xs ≡ true
-precedes_itself xs = upto_same (length xs) (length xs) (is_upto xs xs) refl (dictionary_itself xs)
+precedes_itself xs = upto_same (length xs) (length xs) (is_upto xs xs) refl (is_upto_itself xs)
 
 -- what precedes one that precedes a third precedes that too
 pub precedes_trans : (xs ys zs : List ℕ) → precedes xs ys ≡ true → precedes ys zs ≡ true → precedes xs zs ≡ true
-precedes_trans xs ys zs h g = upto_trans (length xs) (length ys) (length zs) (is_upto xs ys) (is_upto ys zs) (is_upto xs zs) (dictionary_trans xs ys zs) h g
-
--- two lists that each come no later than the other are one
-one_upto : (xs ys : List ℕ) → is_upto xs ys ≡ true → is_upto ys xs ≡ true → xs ≡ ys
-one_upto [] [] h g = refl
-one_upto [] (y ∷ ys) h g = absurd (both_ways false refl g)
-one_upto (x ∷ xs) [] h g = absurd (both_ways false refl h)
-one_upto (x ∷ xs) (y ∷ ys) h g = go (upto_parts x y (is_upto xs ys) h) (upto_parts y x (is_upto ys xs) g) (one_upto xs ys)
-  where
-    go : (x < y) ⊎ ((x ≡ y) × (is_upto xs ys ≡ true)) → (y < x) ⊎ ((y ≡ x) × (is_upto ys xs ≡ true)) → (is_upto xs ys ≡ true → is_upto ys xs ≡ true → xs ≡ ys) → x ∷ xs ≡ y ∷ ys
-    go (inr a) (inr b) ih = let e = a.0 in let f = ih a.1 b.1 in cc
-    go (inl a) (inl b) ih = absurd (omega arith)
-    go (inl a) (inr b) ih = let e = b.0 in absurd (omega arith)
-    go (inr a) (inl b) ih = let e = a.0 in absurd (omega arith)
+precedes_trans xs ys zs h g = upto_trans (length xs) (length ys) (length zs) (is_upto xs ys) (is_upto ys zs) (is_upto xs zs) (is_upto_trans xs ys zs) h g
 
 -- two lists that precede each other are one
 pub one_first : (xs ys : List ℕ) → precedes xs ys ≡ true → precedes ys xs ≡ true → xs ≡ ys
-one_first xs ys h g = go (upto_parts (length xs) (length ys) (is_upto xs ys) h) (upto_parts (length ys) (length xs) (is_upto ys xs) g)
-  where
-    go : (length xs < length ys) ⊎ ((length xs ≡ length ys) × (is_upto xs ys ≡ true)) → (length ys < length xs) ⊎ ((length ys ≡ length xs) × (is_upto ys xs ≡ true)) → xs ≡ ys
-    go (inr a) (inr b) = one_upto xs ys a.1 b.1
-    go (inl a) (inl b) = absurd (omega arith)
-    go (inl a) (inr b) = let e = b.0 in absurd (omega arith)
-    go (inr a) (inl b) = let e = a.0 in absurd (omega arith)
+one_first xs ys h g = let p = upto_one (length xs) (length ys) (is_upto xs ys) (is_upto ys xs) h g in is_upto_one xs ys p.1 p.2
 
 -- two least cycles are equal
 pub one_least : (edge : ℕ → ℕ → Bool) (r : ℕ) (xs ys : List ℕ) → IsLeastCycle edge r xs → IsLeastCycle edge r ys → xs ≡ ys
@@ -159,23 +86,6 @@ cycle_on edge more r (x ∷ xs) f h =
     let begins : r ≡ x = sym (eqb-true x r p.0) in
     and_from (x == r) (are_distinct (x ∷ xs) && leads more r (x ∷ xs)) p.0
     (and_from (are_distinct (x ∷ xs)) (leads more r (x ∷ xs)) q.0 (leads_on edge more r (x ∷ xs) (x ∷ xs) (λ w k. k) (here begins) f q.1))
-
--- a number that the test does not find differs from each of the list
-all_apart : (r : ℕ) (xs : List ℕ) → list_any (λ q. q == r) xs ≡ false → AllByRecursion (λ y. eqb r y ≡ false) xs
-all_apart r [] h = tt
-all_apart r (x ∷ xs) h = let p = or_parts (x == r) (list_any (λ q. q == r) xs) h in (ne_eqb r x (λ e. eqb-false x r p.0 (sym e)), all_apart r xs p.1)
-
--- lists that the test calls distinct are so in the sense of std
-distinct_keys : (xs : List ℕ) → are_distinct xs ≡ true → IsDistinct eqb xs
-unfolding IsDistinct
-distinct_keys [] h = tt
-distinct_keys (x ∷ xs) h =
-    let p = and_parts (not (list_any (λ q. q == x) xs)) (are_distinct xs) h in
-    (all_apart x xs (not-true (list_any (λ q. q == x) xs) p.0), distinct_keys xs p.1)
-
--- a list of distinct numbers below n has at most n of them
-pub distinct_length : (n : ℕ) (xs : List ℕ) → are_distinct xs ≡ true → ((x : ℕ) → In x xs → x < n) → length xs ≤ n
-distinct_length n xs d below = length-le_from_distinct_below xs n (distinct_keys xs d) (λ q h. let m = any_In (eqb q) xs h in let e = eqb-true q m.0 m.2 in let l = below m.0 m.1 in omega arith)
 
 -- each list of at most k numbers below n is listed
 pub In_lists_within : (n k : ℕ) (xs : List ℕ) → length xs ≤ k → ((x : ℕ) → In x xs → x < n) → In xs (lists_within n k)

@@ -12,9 +12,10 @@ use Rattle.fleet_model.specs.Plans.{IsBlocker}
 use Rattle.fleet_model.specs.Cycles.{IsLeastCycle}
 use Rattle.fleet_model.specs.Deferral.{ends, is_kept_by}
 use Rattle.fleet_model.specs.States.{State, pending_of, pending_route, is_deferred_on, IsDeferredOn, cycle_of}
-use Rattle.fleet_model.proofs.Anys.{any_In, In_any}
+use Rattle.fleet_model.proofs.Tests.{any_In, In_any}
 use Rattle.fleet_model.proofs.Cycles.{cycle_through_least}
-use Rattle.fleet_model.proofs.Blockers.{In_acquired, kept_blocker, blocker_kept, blocker_below}
+use Rattle.fleet_model.proofs.Blockers.{kept_blocker, blocker_kept, blocker_below}
+use Rattle.fleet_model.proofs.Steps.{In_acquired}
 
 pub pending_is : (s : State) (r : ℕ) (route : List CellNo) → pending_of s r ≡ Some route → pending_route s r ≡ route
 pending_is s r route h = ap (λ o. unwrap_or o []) h

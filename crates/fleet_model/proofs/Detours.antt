@@ -1,90 +1,30 @@
 -- A detour is a legal route without a blocker, and the detour to its last cell.
-use Rattle.std.proofs.Common.{◌≡◌, ◌≢◌, ℕ, zero, suc, ◌+◌, ◌<◌, ◌≤◌, Bool, true, false, not, ◌&&◌, ◌==◌, ◌⊎◌, inl, inr, refl, sym, ap, ◌∙◌, subst, List, [], ◌∷◌, map, length, zero-add, Some, arith, eq-eqb}
-use Rattle.std.proofs.lemmas.Bool.{both_ways, and_parts, and_from, or_left, cases_lt, not-true, not_from_false, eqb-true, ne_eqb}
-use Rattle.std.proofs.lemmas.List.FromFn.{length-range_with_len, get_or-range_with_len}
-use Rattle.std.proofs.lemmas.Option.{slice_get-map, slice_get_within, slice_get-get_or}
+use Rattle.std.proofs.Common.{◌≡◌, ◌≢◌, ℕ, ◌<◌, ◌≤◌, Bool, true, false, not, ◌&&◌, ◌==◌, refl, sym, ap, ◌∙◌, List, [], ◌∷◌, length, Some, arith, eq-eqb}
+use Rattle.std.proofs.lemmas.Bool.{both_ways, and_parts, and_from, or_left, not-true, not_from_false, eqb-true, ne_eqb}
 use Rattle.std.specs.Prelude.{slice_get}
-use Rattle.std.specs.List.{list_any, list_all, range_with_len}
-use Rattle.std.specs.Option.{option_map}
+use Rattle.std.specs.List.{list_any, list_all}
 use Rattle.fleet_base.specs.declared.numbers.CellNo.{CellNo}
 use Rattle.fleet_base.specs.declared.numbers.ClaimNo.{ClaimNo}
-use Rattle.fleet_base.specs.declared.numbers.Kind.TheVariants.{Acquire, Move, Release}
 use Rattle.fleet_model.specs.Lists.{In, here, there, numbers_below}
-use Rattle.fleet_model.specs.Sites.{Site, IsSite, cell_count, in_conflict, footprint_of, has_claim, is_kept_from, without, step, steps_from, last_cell}
+use Rattle.fleet_model.specs.Sites.{Site, IsSite, cell_count, footprint_of, last_cell}
 use Rattle.fleet_model.specs.Plans.{Fleet, end_of, IsRoute, IsBlocker}
 use Rattle.fleet_model.specs.Routes.{leads_to, IsLeastRoute}
 use Rattle.fleet_model.specs.Deferral.{ends, is_kept_by, is_shut_to}
 use Rattle.fleet_model.specs.Calls.{detour_of, has_cell}
 use Rattle.fleet_model.specs.Journals.{last_of}
-use Rattle.fleet_model.proofs.Lists.{In-append_cases, In_unmap, In_unfilter}
+use Rattle.fleet_model.proofs.Lists.{In_below}
 use Rattle.fleet_model.proofs.Tests.{any_In, In_any, all_In}
-use Rattle.fleet_model.proofs.RouteOrder.{same_cell}
+use Rattle.fleet_model.proofs.SameNumbers.{same_cell}
+use Rattle.fleet_model.proofs.Blockers.{blocker_below, blocker_kept}
 use Rattle.fleet_model.proofs.Shortcuts.{simple_short}
 use Rattle.fleet_model.proofs.LeastRoutes.{least_route_least, least_route_found, least_route_simple}
+use Rattle.fleet_model.proofs.Steps.{steps_acquire}
 
--- a claim that a list has is a member of it
-pub has_claim_In : (claims : List ClaimNo) (c : ClaimNo) → has_claim claims c ≡ true → In c claims
-has_claim_In claims c h =
-    let d = any_In (λ (d : ClaimNo). d.0 == c.0) claims h in
-    let of : ℕ → ClaimNo = λ n. record { 0 = n } in
-    subst (λ x. In x claims) (ap of (eqb-true d.0.0 c.0 d.2)) d.1
-
--- a number within a range is a member of it
-range_In : (a n q : ℕ) → a ≤ q → q < a + n → In q (range_with_len a n)
-range_In a zero q l h = absurd (omega arith)
-range_In a (suc n) q l h = elim (cases_lt a q) [ inl k ↦ there (range_In (a + 1) n q (omega arith) (omega arith)) | inr k ↦ here (omega arith) ]
-
--- each number less than n is among the numbers below n
-pub numbers_below_In : (n q : ℕ) → q < n → In q (numbers_below n)
-numbers_below_In n q l = range_In 0 n q (omega arith) (omega arith)
-
-module _ (m : Fleet) where
-  -- the ends have, at each number of a robot, its end
-  pub ends_at : (q : ℕ) → q < length m.starts → slice_get (ends m) q ≡ Some (end_of m q)
-  ends_at q l =
-      let n = length m.starts in
-      let w : q < length (numbers_below n) = rw (length-range_with_len 0 n) l in
-      slice_get-map (end_of m) (numbers_below n) q
-      ∙ ap (option_map (end_of m)) (slice_get-get_or (numbers_below n) q 0 w)
-      ∙ ap (λ x. Some (end_of m x)) (get_or-range_with_len 0 n q 0 l ∙ zero-add q)
-
-  -- the ends have, at a robot that has a start, its end
-  pub end_at_start : (q : ℕ) (start : CellNo) → slice_get m.starts q ≡ Some start → slice_get (ends m) q ≡ Some (end_of m q)
-  end_at_start q start h = ends_at q (slice_get_within m.starts q start h)
-
--- what a step acquires is a claim of the cell that it leads to
-step_acquires : (site : Site) (a b : CellNo) (c : ClaimNo) → In (Acquire c) (step site a b) → In c (footprint_of site b)
-step_acquires site a b c m =
-    go (In-append_cases (map (λ (d : ClaimNo). Acquire d) (without (footprint_of site b) (footprint_of site a))) (Move a b ∷ map (λ (d : ClaimNo). Release d) (without (footprint_of site a) (footprint_of site b))) m)
-  where
-    behind : In (Acquire c) (Move a b ∷ map (λ (d : ClaimNo). Release d) (without (footprint_of site a) (footprint_of site b))) → ⊥
-    behind (here e) = absurd (cc)
-    behind (there k) = let d = In_unmap (λ (d : ClaimNo). Release d) (without (footprint_of site a) (footprint_of site b)) k in let e = d.2 in absurd (cc)
-
-    go : In (Acquire c) (map (λ (d : ClaimNo). Acquire d) (without (footprint_of site b) (footprint_of site a))) ⊎ In (Acquire c) (Move a b ∷ map (λ (d : ClaimNo). Release d) (without (footprint_of site a) (footprint_of site b))) → In c (footprint_of site b)
-    go (inl k) =
-        let d = In_unmap (λ (d : ClaimNo). Acquire d) (without (footprint_of site b) (footprint_of site a)) k in
-        let e : c ≡ d.0 = let f = d.2 in cc in
-        subst (λ x. In x (footprint_of site b)) (sym e) (In_unfilter (λ (x : ClaimNo). not (has_claim (footprint_of site a) x)) (footprint_of site b) d.1).0
-    go (inr k) = absurd (behind k)
-
--- what a walk acquires is a claim of one of its later cells
-pub steps_acquire : (site : Site) (a : CellNo) (bs : List CellNo) (c : ClaimNo) → In (Acquire c) (steps_from site a bs) → (b : CellNo) × In b bs × In c (footprint_of site b)
-steps_acquire site a [] c m = elim m [ ]
-steps_acquire site a (b ∷ bs) c m =
-    elim (In-append_cases (step site a b) (steps_from site b bs) m) [
-      | inl k ↦ (b, here refl, step_acquires site a b c k)
-      | inr k ↦ (let r = steps_acquire site b bs c k in (r.0, there r.1, r.2))
-    ]
-
--- a cell whose footprint has a claim that another robot keeps at its end is shut
-pub shut_by : (m : Fleet) (r q : ℕ) (start a : CellNo) (c claim : ClaimNo) → q ≢ r → slice_get m.starts q ≡ Some start → In c (footprint_of m.site a) → has_claim (footprint_of m.site (end_of m q)) claim ≡ true → in_conflict m.site c claim ≡ true → is_shut_to m r a ≡ true
-shut_by m r q start a c claim other starts i holds conflict =
-    let kept : is_kept_from m.site c (end_of m q) ≡ true = In_any (λ (d : ClaimNo). in_conflict m.site c d) (footprint_of m.site (end_of m q)) (has_claim_In (footprint_of m.site (end_of m q)) claim holds) conflict in
-    let by : is_kept_by m.site c (slice_get (ends m) q) ≡ true = ap (is_kept_by m.site c) (end_at_start m q start starts) ∙ kept in
-    let any = In_any (λ (d : ClaimNo). is_kept_by m.site d (slice_get (ends m) q)) (footprint_of m.site a) i by in
-    In_any (λ (p : ℕ). not (p == r) && list_any (λ (d : ClaimNo). is_kept_by m.site d (slice_get (ends m) p)) (footprint_of m.site a)) (numbers_below (length m.starts))
-    (numbers_below_In (length m.starts) q (slice_get_within m.starts q start starts))
+-- a cell with a claim that another robot's end keeps is shut
+pub shut_by : (m : Fleet) (r q : ℕ) (a : CellNo) (c : ClaimNo) → q ≢ r → q < length m.starts → In c (footprint_of m.site a) → is_kept_by m.site c (slice_get (ends m) q) ≡ true → is_shut_to m r a ≡ true
+shut_by m r q a c other robot i kept =
+    let any = In_any (λ (d : ClaimNo). is_kept_by m.site d (slice_get (ends m) q)) (footprint_of m.site a) i kept in
+    In_any (λ (p : ℕ). not (p == r) && list_any (λ (d : ClaimNo). is_kept_by m.site d (slice_get (ends m) p)) (footprint_of m.site a)) (numbers_below (length m.starts)) (In_below (length m.starts) q robot)
     (and_from (not (q == r)) (list_any (λ (d : ClaimNo). is_kept_by m.site d (slice_get (ends m) q)) (footprint_of m.site a)) (not_from_false (q == r) (ne_eqb q r other)) any)
 
 -- a route past the cells that are shut has no blocker
@@ -95,7 +35,7 @@ no_blocker m r goal (a ∷ bs) h c q b =
     let free : CellNo → Bool = λ x. not (is_shut_to m r x) in
     let p = and_parts (goal (last_cell a bs)) (list_all free (a ∷ bs)) h in
     let open_to = not-true (is_shut_to m r k.0) (all_In free (a ∷ bs) p.1 (there k.1)) in
-    both_ways (is_shut_to m r k.0) open_to (shut_by m r q b.start k.0 c b.claim b.other b.starts k.2 b.holds b.conflict)
+    both_ways (is_shut_to m r k.0) open_to (shut_by m r q k.0 c b.other (blocker_below m r (a ∷ bs) c q b) k.2 (blocker_kept m r (a ∷ bs) c q b))
 
 -- a least route to a goal is the least route to its last cell alone
 pub least_route_to_last : (site : Site) (goal avoid : CellNo → Bool) (from : CellNo) (route : List CellNo) → IsLeastRoute site goal avoid from route → IsLeastRoute site (λ a. has_cell (last_of route) a) avoid from route

@@ -3,10 +3,11 @@ use Rattle.std.proofs.Common.{◌≡◌, ℕ, ◌+◌, ◌<◌, true, false, not
 use Rattle.std.proofs.lemmas.Bool.{both_ways, cases_Bool, and_parts, ltb-true}
 use Rattle.std.specs.Prelude.{nat_lt, slice_get}
 use Rattle.fleet_base.specs.declared.numbers.CellNo.{CellNo}
+use Rattle.fleet_base.specs.declared.numbers.ClaimGroup.{ClaimGroup}
 use Rattle.fleet_base.specs.declared.numbers.ClaimNo.{ClaimNo}
 use Rattle.fleet_base.specs.declared.numbers.Event.{Event}
 use Rattle.fleet_model.specs.Lists.{In, here, there}
-use Rattle.fleet_model.specs.Sites.{footprint_of, Site, IsSite, has_claim}
+use Rattle.fleet_model.specs.Sites.{footprint_of, IsSite, has_claim}
 use Rattle.fleet_model.specs.Replays.{AreSteps, Spot, IsStanding, CanDoAll, after_kinds, standing, opening, start_at}
 use Rattle.fleet_model.specs.Plans.{Fleet, kinds, is_done, clashes, is_awaited, IsBehind, IsReady, IsSafe, end_of}
 use Rattle.fleet_model.specs.Good.{IsAscending, IsGoodPlan}
@@ -41,13 +42,13 @@ end_held m is_site good q a d robot h =
     there ∙ subst (λ x. has_claim (footprint_of m.site x) d ≡ true) (end_is m q) h
 
 -- what an event waits for has a smaller number
-pub awaited_less : (site : Site) (e f : Event) → is_awaited site e f ≡ true → f.no.0 < e.no.0
-awaited_less site e f h = ltb-true f.no.0 e.no.0 (and_parts (nat_lt f.no.0 e.no.0) (not (f.robot.0 == e.robot.0) && clashes site e.kind f.kind) h).0
+pub awaited_less : (groups : List ClaimGroup) (e f : Event) → is_awaited groups e f ≡ true → f.no.0 < e.no.0
+awaited_less groups e f h = ltb-true f.no.0 e.no.0 (and_parts (nat_lt f.no.0 e.no.0) (not (f.robot.0 == e.robot.0) && clashes groups e.kind f.kind) h).0
 
 -- what an event comes behind has a smaller number
-pub behind_less : (site : Site) (e f : Event) → IsBehind site e f → f.no.0 < e.no.0
-behind_less site e f (inl h) = h.1
-behind_less site e f (inr h) = awaited_less site e f h
+pub behind_less : (groups : List ClaimGroup) (e f : Event) → IsBehind groups e f → f.no.0 < e.no.0
+behind_less groups e f (inl h) = h.1
+behind_less groups e f (inr h) = awaited_less groups e f h
 
 -- the event of least number that isn't done
 pub record IsFirst (es done : List Event) (f : Event) : Type 0 where
@@ -71,7 +72,7 @@ first_unfinished low [] done h x m n = elim m [ ]
 first_unfinished low (e ∷ es) done h x m n = first_step low e es done h (cases_Bool (is_done done e)) (first_unfinished (e.no.0 + 1) es done h.1) x m n
 
 -- the first undone event is ready
-pub ready_event : (m : Fleet) → IsGoodPlan m → (e : Event) → In e m.plan → is_done m.finished e ≡ false → (f : Event) × IsReady (IsBehind m.site) m.plan m.finished f
+pub ready_event : (m : Fleet) → IsGoodPlan m → (e : Event) → In e m.plan → is_done m.finished e ≡ false → (f : Event) × IsReady (IsBehind m.site.groups) m.plan m.finished f
 ready_event m good e planned undone =
     let f : (f : Event) × IsFirst m.plan m.finished f = first_unfinished 1 m.plan m.finished (from_one m good) e planned undone in
-    (f.0, record { planned = f.1.planned; undone = f.1.undone; waited = λ g p b. f.1.least g p (behind_less m.site f.0 g b) })
+    (f.0, record { planned = f.1.planned; undone = f.1.undone; waited = λ g p b. f.1.least g p (behind_less m.site.groups f.0 g b) })

@@ -1,4 +1,4 @@
--- Insertions against the merge: with a blocker none is safe; without one some is; and none that is safe allows more than the merge.
+-- With a blocker no insertion is safe; under a safe one no acquire of the route comes before a conflicting release of the plan.
 use Rattle.std.proofs.Common.{◌≡◌, ◌≢◌, ℕ, ◌<◌, ◌≤◌, Bool, true, false, cond, not, ◌||◌, ◌&&◌, ◌⊎◌, inl, inr, refl, sym, ap, ◌∙◌, subst, List, [], ◌∷◌, ◌++◌, map, arith, append_assoc}
 use Rattle.std.proofs.lemmas.Bool.{both_ways, cases_Bool, not-true, not_from_false, and_parts, and_from, or_cases, or_left, or_right, ltb-true, ltb-false, lt-ltb, le-ltb}
 use Rattle.std.proofs.lemmas.List.{append-nil, map-append}
@@ -14,32 +14,34 @@ use Rattle.fleet_model.specs.Sites.{in_conflict, IsSite, steps}
 use Rattle.fleet_model.specs.Replays.{Spot, Spots, CanDo, CanDoAll, IsFree, IsLegal, after_kinds, opening, replay}
 use Rattle.fleet_model.specs.Plans.{Fleet, own, kinds, is_done, IsBehind, IsReady, IsOrder, route_events, IsBlocker, Insertion, IsInsertion, IsBehindBy, IsSafeInsertion}
 use Rattle.fleet_model.specs.Good.{IsAscending, IsGoodPlan}
-use Rattle.fleet_model.proofs.Lists.{In_either, In_split, In-append_left, In-append_right, In-append_cases, In-filter, In_unfilter, filter_in, filter_out}
-use Rattle.fleet_model.proofs.Numbers.{low_bound, own-append, done_in, done_event, done_left, done_right, done_neither, done_none, done_parts, done_cases, done_same, from_one}
+use Rattle.fleet_model.proofs.Lists.{In_either, In_split, In-append_left, In-append_right, In-append_cases, In-filter, In_unfilter}
+use Rattle.fleet_model.proofs.Numbers.{own-append, done_in, done_event, done_left, done_right, done_neither, done_none, done_parts, done_cases, done_same, from_one, ascending-append}
 use Rattle.fleet_model.proofs.Alone.{replay_own, CanDoAll_at, legal_at}
 use Rattle.fleet_model.proofs.Good.{able, end_held, awaited_less}
-use Rattle.fleet_model.proofs.Merge.{numbered-ascending, numbered-robot}
-use Rattle.fleet_model.proofs.Grown.{ascending-append, own-numbered, numbered-event}
-use Rattle.fleet_model.proofs.Filtered.{filter_order}
+use Rattle.fleet_model.proofs.OrdersByNumber.{filter_order}
+use Rattle.fleet_model.proofs.Filters.{filter_in, filter_out}
+use Rattle.fleet_model.proofs.Numbered.{numbered-ascending, numbered-robot, own-numbered, numbered-event}
+use Rattle.fleet_model.proofs.Merge.{news_high}
 use Rattle.fleet_model.proofs.Orders as orders
 
 module _ (m : Fleet) (r : ℕ) (route : List CellNo) (is_site : IsSite m.site) (good : IsGoodPlan m) (pairs : Insertion) (insertion : IsInsertion m (route_events m r route) pairs) where
+  -- the events of the route
   abbrev news : List Event
   news = route_events m r route
 
+  -- the plan with the events of the route
   abbrev plan : List Event
   plan = m.plan ++ news
 
+  -- what an event comes behind, with the pairs of the insertion
   abbrev by : Event → Event → Type 0
   by e f = IsBehindBy m pairs e f
 
+  -- where the robots start
   abbrev start : Spots
   start = opening m.site m.starts
 
-  -- the events of the route have the numbers from the next on
-  high : (e : Event) → In e news → m.next ≤ e.no.0
-  high e i = low_bound m.next news (numbered-ascending m.next r (steps m.site route)) i
-
+  -- the events of the route are those of its robot
   moving : (e : Event) → In e news → e.robot.0 ≡ r
   moving e i = numbered-robot m.next r (steps m.site route) e i
 
@@ -47,26 +49,18 @@ module _ (m : Fleet) (r : ℕ) (route : List CellNo) (is_site : IsSite m.site) (
   rises : IsAscending 1 plan
   rises = ascending-append 1 m.next m.plan news (let f = good.first in let o = good.opened in omega arith) good.next (from_one m good) (numbered-ascending m.next r (steps m.site route))
 
-  -- an event of the plan with a low number is no news
-  old_one : (e : Event) → In e plan → e.no.0 < m.next → In e m.plan
-  old_one e i l = elim (In-append_cases m.plan news i) [ inl j ↦ j | inr j ↦ (let h = high e j in absurd (omega arith)) ]
-
-  -- an event of the plan with a high number is of the route
-  new_one : (e : Event) → In e plan → m.next ≤ e.no.0 → In e news
-  new_one e i l = elim (In-append_cases m.plan news i) [ inl j ↦ (let h = good.next e j in absurd (omega arith)) | inr j ↦ j ]
-
   -- what an event comes behind has a smaller number
   by_less : (e f : Event) → by e f → f.no.0 < e.no.0
   by_less e f (inl h) = h.1
-  by_less e f (inr (inl h)) = awaited_less m.site e f h.1
-  by_less e f (inr (inr p)) = let h = high e (insertion.new f e p) in let l = good.next f (insertion.planned f e p) in omega arith
+  by_less e f (inr (inl h)) = awaited_less m.site.groups e f h.1
+  by_less e f (inr (inr p)) = let h = news_high m r route e (insertion.new f e p) in let l = good.next f (insertion.planned f e p) in omega arith
 
   -- an event comes behind each earlier one of its robot
   by_own : (e f : Event) → f.robot.0 ≡ e.robot.0 → f.no.0 < e.no.0 → by e f
   by_own e f h l = inl (h, l)
 
   -- the orders of the plan before are orders beside the insertion
-  old_order : (done order : List Event) → IsOrder (IsBehind m.site) m.plan done order → IsOrder by plan done order
+  old_order : (done order : List Event) → IsOrder (IsBehind m.site.groups) m.plan done order → IsOrder by plan done order
   old_order done [] h = tt
   old_order done (e ∷ es) h =
       (record { planned = In-append_left m.plan news h.0.planned; undone = h.0.undone; waited = λ f i b. waited f (In-append_cases m.plan news i) b }, old_order (done ++ e ∷ []) es h.1)
@@ -77,13 +71,14 @@ module _ (m : Fleet) (r : ℕ) (route : List CellNo) (is_site : IsSite m.site) (
       waited : (f : Event) → In f m.plan ⊎ In f news → by e f → is_done done f ≡ true
       waited f (inl i) (inl b) = h.0.waited f i (inl b)
       waited f (inl i) (inr (inl b)) = h.0.waited f i (inr b.1)
-      waited f (inl i) (inr (inr p)) = let l = high e (insertion.new f e p) in absurd (omega arith)
-      waited f (inr i) b = let l = high f i in let k = by_less e f b in absurd (omega arith)
+      waited f (inl i) (inr (inr p)) = let l = news_high m r route e (insertion.new f e p) in absurd (omega arith)
+      waited f (inr i) b = let l = news_high m r route f i in let k = by_less e f b in absurd (omega arith)
 
   -- what is finished has a low number
   finished_low : (e : Event) → In e plan → m.next ≤ e.no.0 → is_done m.finished e ≡ false
-  finished_low e i l = done_none m.finished e (λ g j n. let k = good.next g ((orders.order_kept (IsBehind m.site) m.plan (from_one m good) (λ x y a b. inl (a, b)) [] m.finished (orders.kept_none (IsBehind m.site) m.plan) good.finished).planned g j) in omega arith)
+  finished_low e i l = done_none m.finished e (λ g j n. let k = good.next g ((orders.order_kept (IsBehind m.site.groups) m.plan (from_one m good) (λ x y a b. inl (a, b)) [] m.finished (orders.kept_none (IsBehind m.site.groups) m.plan) good.finished).planned g j) in omega arith)
 
+  -- what is done is of the plan, with all that it comes behind
   abbrev Kept : List Event → Type 0
   Kept done = orders.IsKept by plan done
 
@@ -101,6 +96,7 @@ module _ (m : Fleet) (r : ℕ) (route : List CellNo) (is_site : IsSite m.site) (
       ap (λ (t : Spot). t.holds d) (replay_own start done q
       ∙ ap (λ es. after_kinds (start q) (map (λ (e : Event). e.kind) es)) (orders.all_own by plan rises by_own done q kept (λ g i s. elim (In-append_cases m.plan news i) [ inl j ↦ all g j s | inr j ↦ absurd (apart (sym (moving g j) ∙ s)) ]) ∙ own_old q apart))
 
+  -- the event is not finished
   abbrev undone : Event → Bool
   undone e = not (is_done m.finished e)
 
@@ -111,7 +107,7 @@ module _ (m : Fleet) (r : ℕ) (route : List CellNo) (is_site : IsSite m.site) (
       (λ e f i t j b. elim (cases_Bool (is_done m.finished f)) [ inl d ↦ inl d | inr d ↦ inr (not_from_false (is_done m.finished f) d, by_less e f b) ])
 
   -- no other robot holds what conflicts with an acquire that is free
-  free_of : (spots : Spots) (e : Event) (c : ClaimNo) → e.kind ≡ Acquire c → IsFree m.site spots e.robot.0 e.kind → (q : ℕ) (d : ClaimNo) → q ≢ e.robot.0 → (spots q).holds d ≡ true → in_conflict m.site c d ≡ true → ⊥
+  free_of : (spots : Spots) (e : Event) (c : ClaimNo) → e.kind ≡ Acquire c → IsFree m.site spots e.robot.0 e.kind → (q : ℕ) (d : ClaimNo) → q ≢ e.robot.0 → (spots q).holds d ≡ true → in_conflict m.site.groups c d ≡ true → ⊥
   free_of spots e c k free = let f : IsFree m.site spots e.robot.0 (Acquire c) = subst (λ x. IsFree m.site spots e.robot.0 x) k free in f
 
   -- a robot holds at its end what it holds there beside the blocked acquire
@@ -144,7 +140,7 @@ module _ (m : Fleet) (r : ℕ) (route : List CellNo) (is_site : IsSite m.site) (
       rest = filter undone split.1
 
       new_now : undone e ≡ true
-      new_now = not_from_false (is_done m.finished e) (finished_low e (In-append_right m.plan news in_news) (high e in_news))
+      new_now = not_from_false (is_done m.finished e) (finished_low e (In-append_right m.plan news in_news) (news_high m r route e in_news))
 
       whole : filter undone plan ≡ front ++ e ∷ rest
       whole = ap (λ es. filter undone (m.plan ++ es)) split.2 ∙ (ap (λ es. filter undone es) (sym (append_assoc m.plan split.0 (e ∷ split.1))) ∙ (filter-append undone (m.plan ++ split.0) (e ∷ split.1) ∙ ap (λ es. front ++ es) (filter_in undone e split.1 new_now)))
@@ -167,7 +163,8 @@ module _ (m : Fleet) (r : ℕ) (route : List CellNo) (is_site : IsSite m.site) (
 
   -- an acquire e of the newcomer that comes while a release x of a conflicting claim, which is to come before it, isn't done
   module _ (safe : IsSafeInsertion m news pairs) (before : List Event) (e : Event) (ordered : IsOrder by plan m.finished (before ++ e ∷ [])) (in_news : In e news) (c d : ClaimNo) (kind : e.kind ≡ Acquire c)
-      (x : Event) (x_planned : In x m.plan) (x_kind : x.kind ≡ Release d) (x_robot : x.robot.0 ≢ e.robot.0) (conflict : in_conflict m.site c d ≡ true) (waiting : is_done (m.finished ++ before) x ≡ false) where
+      (x : Event) (x_planned : In x m.plan) (x_kind : x.kind ≡ Release d) (x_robot : x.robot.0 ≢ e.robot.0) (conflict : in_conflict m.site.groups c d ≡ true) (waiting : is_done (m.finished ++ before) x ≡ false) where
+    -- what came, with the acquire
     abbrev whole : List Event
     whole = before ++ e ∷ []
 
@@ -175,9 +172,11 @@ module _ (m : Fleet) (r : ℕ) (route : List CellNo) (is_site : IsSite m.site) (
     abbrev early : Event → Bool
     early f = not (is_done m.finished f) && (nat_lt f.no.0 m.next && (is_done whole f || nat_lt f.no.0 x.no.0))
 
+    -- the event has a high number: it is of the route
     abbrev fresh : Event → Bool
     fresh f = not (nat_lt f.no.0 m.next)
 
+    -- the old events that came early, by number
     abbrev olds : List Event
     olds = filter early plan
 
@@ -266,11 +265,12 @@ module _ (m : Fleet) (r : ℕ) (route : List CellNo) (is_site : IsSite m.site) (
     news_order front [] h = tt
     news_order front (f ∷ rest) h = news_step front f rest (fresh f) h refl (news_order (front ++ f ∷ []) rest (h ∙ sym (append_assoc front (f ∷ []) rest)))
 
+    -- the old events that came early, and then the new ones that came
     abbrev came : List Event
     came = olds ++ filter fresh before
 
     last_fresh : filter fresh whole ≡ filter fresh before ++ e ∷ []
-    last_fresh = filter-append fresh before (e ∷ []) ∙ ap (λ es. filter fresh before ++ es) (filter_in fresh e [] (not_from_false (nat_lt e.no.0 m.next) (le-ltb e.no.0 m.next (high e in_news))))
+    last_fresh = filter-append fresh before (e ∷ []) ∙ ap (λ es. filter fresh before ++ es) (filter_in fresh e [] (not_from_false (nat_lt e.no.0 m.next) (le-ltb e.no.0 m.next (news_high m r route e in_news))))
 
     -- the early events, the fresh ones that came and the acquire are an order
     other_order : IsOrder by plan m.finished (came ++ e ∷ [])
@@ -291,7 +291,7 @@ module _ (m : Fleet) (r : ℕ) (route : List CellNo) (is_site : IsSite m.site) (
         parts = done_parts m.finished before x waiting
 
         not_last : is_done (e ∷ []) x ≡ true → ⊥
-        not_last t = let g = done_event x (e ∷ []) t in In_either g.1 (λ i. let h = high e in_news in let k = x_low in let s : g.0.no.0 ≡ x.no.0 = g.2 in omega (arith, ap (λ (y : Event). y.no.0) i)) (λ i. elim i [ ])
+        not_last t = let g = done_event x (e ∷ []) t in In_either g.1 (λ i. let h = news_high m r route e in_news in let k = x_low in let s : g.0.no.0 ≡ x.no.0 = g.2 in omega (arith, ap (λ (y : Event). y.no.0) i)) (λ i. elim i [ ])
 
         not_early : (g : Event) → g.no.0 ≡ x.no.0 → (is_done whole g ≡ true) ⊎ (g.no.0 < x.no.0) → ⊥
         not_early g n (inl w) = elim (done_cases before (e ∷ []) x (sym (done_same whole g x n) ∙ w)) [ inl t ↦ both_ways (is_done before x) parts.1 t | inr t ↦ not_last t ]

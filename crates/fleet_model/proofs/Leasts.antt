@@ -4,14 +4,17 @@ use Rattle.fleet_model.specs.Lists.{In, here, there, earlier, least}
 use Rattle.fleet_model.proofs.Lists.{In_either}
 
 module _ {A : Type 0} (upto : A → A → Bool) where
+  -- the earlier of two is the first, which comes no later, or the second
   earlier_cases : (x y : A) (b : Bool) → upto x y ≡ b → ((cond b x y ≡ x) × (upto x y ≡ true)) ⊎ ((cond b x y ≡ y) × (upto x y ≡ false))
   earlier_cases x y true h = inl (refl, h)
   earlier_cases x y false h = inr (refl, h)
 
+  -- a list without a least element is empty
   pub least_none : (xs : List A) → least upto xs ≡ None → xs ≡ []
   least_none [] h = refl
   least_none (x ∷ xs) h = absurd (cc)
 
+  -- the earlier of an element and one of the rest is one of the list
   earlier_in : (x z : A) (o : Option A) (xs : List A) → ((y : A) → o ≡ Some y → In y xs) → earlier upto x o ≡ z → In z (x ∷ xs)
   earlier_in x z None xs among h = here (sym h)
   earlier_in x z (Some y) xs among h = go (earlier_cases x y (upto x y) refl)
@@ -31,6 +34,7 @@ module _ {A : Type 0} (upto : A → A → Bool) where
   least_some (x ∷ xs) y m = (earlier upto x (least upto xs), refl)
 
   module _ (total : (x y : A) → upto x y ≡ false → upto y x ≡ true) (itself : (x : A) → upto x x ≡ true) (trans : (x y z : A) → upto x y ≡ true → upto y z ≡ true → upto x z ≡ true) where
+    -- the earlier of two comes before both
     earlier_first : (x z : A) (o : Option A) → earlier upto x o ≡ z → (upto z x ≡ true) × ((y : A) → o ≡ Some y → upto z y ≡ true)
     earlier_first x z None h = (rw (sym h) (itself x), λ y e. absurd (cc))
     earlier_first x z (Some w) h = go (earlier_cases x w (upto x w) refl)

@@ -1,29 +1,24 @@
--- Events in order of number, and which of them are done.
-use Rattle.std.proofs.Common.{◌≡◌, ◌≢◌, ℕ, ◌+◌, ◌<◌, ◌≤◌, Bool, true, false, cond, ◌==◌, ◌||◌, ◌⊎◌, inl, inr, refl, sym, ap, ◌∙◌, List, [], ◌∷◌, ◌++◌, arith, eq-eqb}
-use Rattle.std.proofs.lemmas.Bool.{eqb-true, ne_eqb, or_cases, or_parts, or_from, or_left, or_right, both_ways, false_from_ne_true}
-use Rattle.std.proofs.lemmas.List.{append-nil}
+-- Events in order of number, which of them are done, and which are a robot's own.
+use Rattle.std.proofs.Common.{◌≡◌, ◌≢◌, ℕ, ◌+◌, ◌<◌, ◌≤◌, Bool, true, false, cond, ◌==◌, ◌||◌, ◌⊎◌, refl, sym, ap, ◌∙◌, List, [], ◌∷◌, ◌++◌, arith, eq-eqb, map}
+use Rattle.std.proofs.lemmas.Bool.{eqb-true, ne_eqb, or_cases, or_parts, or_from, or_left, or_right, false_from_ne_true}
+use Rattle.std.proofs.lemmas.List.{append-nil, map-append}
 use Rattle.std.proofs.lemmas.List.Elements.{filter-append}
 use Rattle.std.specs.List.{filter, list_any}
 use Rattle.fleet_base.specs.declared.numbers.Event.{Event}
 use Rattle.fleet_model.specs.Lists.{In, here, there}
-use Rattle.fleet_model.specs.Plans.{Fleet, is_done, own}
+use Rattle.fleet_model.specs.Plans.{Fleet, is_done, own, kinds}
 use Rattle.fleet_model.specs.Good.{IsAscending, IsGoodPlan}
-use Rattle.fleet_model.proofs.Lists.{In-append_right, In-filter, In_unfilter, filter_in, filter_out}
+use Rattle.fleet_model.proofs.Lists.{In-append_right, In-filter, In_unfilter}
+use Rattle.fleet_model.proofs.Filters.{filter_in, filter_out}
+use Rattle.fleet_model.proofs.Tests.{any_In, In_any}
 
 -- an event of the list is done by it
 pub done_in : {e : Event} (done : List Event) → In e done → is_done done e ≡ true
-done_in [] m = elim m [ ]
-done_in {e} (f ∷ fs) (here h) = or_left (f.no.0 == e.no.0) (is_done fs e) (eq-eqb f.no.0 e.no.0 (ap (λ (x : Event). x.no.0) (sym h)))
-done_in {e} (f ∷ fs) (there m) = or_right (f.no.0 == e.no.0) (is_done fs e) (done_in fs m)
+done_in {e} done m = In_any (λ (f : Event). f.no.0 == e.no.0) done m (eq-eqb e.no.0 e.no.0 refl)
 
 -- what is done has its number in the list
 pub done_event : (e : Event) (done : List Event) → is_done done e ≡ true → (f : Event) × In f done × (f.no.0 ≡ e.no.0)
-done_event e [] h = absurd (both_ways false refl h)
-done_event e (f ∷ fs) h = go (or_cases (f.no.0 == e.no.0) (is_done fs e) h) (done_event e fs)
-  where
-    go : ((f.no.0 == e.no.0) ≡ true) ⊎ (is_done fs e ≡ true) → (is_done fs e ≡ true → (g : Event) × In g fs × (g.no.0 ≡ e.no.0)) → (g : Event) × In g (f ∷ fs) × (g.no.0 ≡ e.no.0)
-    go (inl t) ih = (f, here refl, eqb-true f.no.0 e.no.0 t)
-    go (inr t) ih = let r = ih t in (r.0, there r.1, r.2)
+done_event e done h = let f = any_In (λ (f : Event). f.no.0 == e.no.0) done h in (f.0, f.1, eqb-true f.0.no.0 e.no.0 f.2)
 
 pub is_done-append : (xs ys : List Event) (e : Event) → is_done (xs ++ ys) e ≡ (is_done xs e || is_done ys e)
 is_done-append [] ys e = refl
@@ -126,3 +121,11 @@ done_none xs e h = false_from_ne_true (is_done xs e) (λ t. let g = done_event e
 -- the numbers of a good plan rise from 1 on
 pub from_one : (m : Fleet) → IsGoodPlan m → IsAscending 1 m.plan
 from_one m good = IsAscending_lower m.first 1 m.plan good.first good.numbers
+
+-- events below a number and events from it on rise together
+pub ascending-append : (low next : ℕ) (xs ys : List Event) → low ≤ next → ((e : Event) → In e xs → e.no.0 < next) → IsAscending low xs → IsAscending next ys → IsAscending low (xs ++ ys)
+ascending-append low next [] ys l f h g = IsAscending_lower next low ys l g
+ascending-append low next (x ∷ xs) ys l f h g = (h.0, ascending-append (x.no.0 + 1) next xs ys (let b = f x (here refl) in omega arith) (λ e m. f e (there m)) h.1 g)
+
+pub kinds-append : (q : ℕ) (xs ys : List Event) → kinds q (xs ++ ys) ≡ kinds q xs ++ kinds q ys
+kinds-append q xs ys = ap (λ es. map (λ (e : Event). e.kind) es) (own-append q xs ys) ∙ map-append (λ (e : Event). e.kind) (own q xs) (own q ys)

@@ -1,4 +1,4 @@
--- What an order keeps.
+-- An order's beginnings and rests are orders, and it does each robot's events in turn.
 use Rattle.std.proofs.Common.{◌≡◌, ℕ, ◌+◌, ◌<◌, true, false, ◌⊎◌, inl, inr, refl, sym, ap, ◌∙◌, subst, List, [], ◌∷◌, ◌++◌, arith, append_assoc}
 use Rattle.std.proofs.lemmas.Bool.{both_ways, or_left, cases_eq}
 use Rattle.std.proofs.lemmas.List.{append-nil}

@@ -1,13 +1,12 @@
--- A cycle may begin at each of its members, and cycles of deferrals as relations.
-use Rattle.std.proofs.Common.{◌≡◌, ◌≢◌, ◌↔◌, ℕ, Bool, true, false, not, ◌==◌, inl, inr, refl, sym, subst, List, [], ◌∷◌, ◌++◌, length, eq-eqb}
-use Rattle.std.proofs.lemmas.Bool.{both_ways, and_parts, and_from, not-true, not_from_false, eqb-true, false_from_ne_true}
-use Rattle.std.specs.List.{list_any}
-use Rattle.fleet_model.specs.Lists.{In, here, there}
+-- A cycle may begin at each of its members; a cycle of deferrals stands where its deferrals do.
+use Rattle.std.proofs.Common.{◌≡◌, ◌≢◌, ◌↔◌, ℕ, Bool, true, refl, sym, subst, List, [], ◌∷◌, ◌++◌, length}
+use Rattle.std.proofs.lemmas.Bool.{both_ways, and_parts, and_from}
+use Rattle.fleet_model.specs.Lists.{In}
 use Rattle.fleet_model.specs.Cycles.{leads, are_distinct, is_cycle, IsLeastCycle}
 use Rattle.fleet_model.specs.States.{State, is_deferred_on, IsDeferredOn, cycle_of}
 use Rattle.fleet_model.specs.Sound.{IsCycle}
-use Rattle.fleet_model.proofs.Lists.{In_either, In_split, In-append_left, In-append_right, In-append_cases}
-use Rattle.fleet_model.proofs.Anys.{any_In, In_any}
+use Rattle.fleet_model.proofs.Lists.{In_split, In_swap}
+use Rattle.fleet_model.proofs.Distinct.{distinct_split, distinct_join}
 use Rattle.fleet_model.proofs.Cycles.{IsCycleOf, cycle_parts, cycle_from, cycle_next, cycle_on}
 use Rattle.fleet_model.proofs.Deferrals.{deferred_true, true_deferred, cycle_of_least}
 
@@ -31,44 +30,6 @@ module _ (edge : ℕ → ℕ → Bool) where
   leads_join r z x (y ∷ ys) zs h g =
       let p = and_parts (edge x y) (leads edge z (y ∷ ys)) h in
       and_from (edge x y) (leads edge r (y ∷ (ys ++ z ∷ zs))) p.0 (leads_join r z y ys zs p.1 g)
-
--- a number that the test doesn't find isn't in the list
-pub absent_out : (r : ℕ) (rs : List ℕ) → list_any (λ q. q == r) rs ≡ false → In r rs → ⊥
-absent_out r rs h m = both_ways (list_any (λ q. q == r) rs) h (In_any (λ q. q == r) rs m (eq-eqb r r refl))
-
--- the test finds no number that isn't in the list
-pub out_absent : (r : ℕ) (rs : List ℕ) → (In r rs → ⊥) → list_any (λ q. q == r) rs ≡ false
-out_absent r rs f = false_from_ne_true (list_any (λ q. q == r) rs) (λ t. let m = any_In (λ q. q == r) rs t in f (subst (λ x. In x rs) (eqb-true m.0 r m.2) m.1))
-
--- the first of a list of distinct numbers isn't in the rest
-pub distinct_parts : (x : ℕ) (xs : List ℕ) → are_distinct (x ∷ xs) ≡ true → (In x xs → ⊥) × (are_distinct xs ≡ true)
-distinct_parts x xs h = let p = and_parts (not (list_any (λ q. q == x) xs)) (are_distinct xs) h in (absent_out x xs (not-true (list_any (λ q. q == x) xs) p.0), p.1)
-
--- one more number that isn't in the list leaves it distinct
-pub distinct_from : (x : ℕ) (xs : List ℕ) → (In x xs → ⊥) → are_distinct xs ≡ true → are_distinct (x ∷ xs) ≡ true
-distinct_from x xs f d = and_from (not (list_any (λ q. q == x) xs)) (are_distinct xs) (not_from_false (list_any (λ q. q == x) xs) (out_absent x xs f)) d
-
--- both parts of a list of distinct numbers are distinct, and share none
-pub distinct_split : (xs ys : List ℕ) → are_distinct (xs ++ ys) ≡ true → (are_distinct xs ≡ true) × (are_distinct ys ≡ true) × ((x : ℕ) → In x xs → In x ys → ⊥)
-distinct_split [] ys h = (refl, h, λ x i j. elim i [ ])
-distinct_split (x ∷ xs) ys h =
-    let p = distinct_parts x (xs ++ ys) h in
-    let r = distinct_split xs ys p.1 in (
-      distinct_from x xs (λ m. p.0 (In-append_left xs ys m)) r.0,
-      r.1,
-      λ y i j. In_either i (λ e. p.0 (In-append_right xs ys (subst (λ w. In w ys) e j))) (λ k. r.2 y k j),
-    )
-
--- two lists of distinct numbers that share none are distinct together
-pub distinct_join : (xs ys : List ℕ) → are_distinct xs ≡ true → are_distinct ys ≡ true → ((x : ℕ) → In x xs → In x ys → ⊥) → are_distinct (xs ++ ys) ≡ true
-distinct_join [] ys d e apart = e
-distinct_join (x ∷ xs) ys d e apart =
-    let p = distinct_parts x xs d in
-    distinct_from x (xs ++ ys) (λ m. elim (In-append_cases xs ys m) [ inl i ↦ p.0 i | inr j ↦ apart x (here refl) j ]) (distinct_join xs ys p.1 e (λ y i j. apart y (there i) j))
-
--- a list has the same elements where its two parts are swapped
-pub In_swap : {A : Type 0} {x : A} (xs ys : List A) → In x (xs ++ ys) → In x (ys ++ xs)
-In_swap xs ys m = elim (In-append_cases xs ys m) [ inl i ↦ In-append_right ys xs i | inr j ↦ In-append_left ys xs j ]
 
 -- the same cycle, begun with r
 pub record IsTurned (edge : ℕ → ℕ → Bool) (zs : List ℕ) (r : ℕ) (rs : List ℕ) : Type 0 where
@@ -111,9 +72,9 @@ least_is_cycle edge r [] h n = absurd (n refl)
 least_is_cycle edge r (x ∷ xs) h n = h.0
 
 -- the least cycle is empty exactly where there is no cycle
-pub least_some : (edge : ℕ → ℕ → Bool) (r : ℕ) (xs : List ℕ) → IsLeastCycle edge r xs → (xs ≢ []) ↔ ((others : List ℕ) × (is_cycle edge r (r ∷ others) ≡ true))
-least_some edge r [] h = (λ n. absurd (n refl), λ c. absurd (both_ways (is_cycle edge r (r ∷ c.0)) (h (r ∷ c.0)) c.1))
-least_some edge r (x ∷ xs) h = (λ n. let p = cycle_parts edge r (x ∷ xs) h.0 in (p.others, subst (λ ys. is_cycle edge r ys ≡ true) p.begins h.0), λ c n. absurd (cc))
+pub least_cycle_some : (edge : ℕ → ℕ → Bool) (r : ℕ) (xs : List ℕ) → IsLeastCycle edge r xs → (xs ≢ []) ↔ ((others : List ℕ) × (is_cycle edge r (r ∷ others) ≡ true))
+least_cycle_some edge r [] h = (λ n. absurd (n refl), λ c. absurd (both_ways (is_cycle edge r (r ∷ c.0)) (h (r ∷ c.0)) c.1))
+least_cycle_some edge r (x ∷ xs) h = (λ n. let p = cycle_parts edge r (x ∷ xs) h.0 in (p.others, subst (λ ys. is_cycle edge r ys ≡ true) p.begins h.0), λ c n. absurd (cc))
 
 -- each member of a cycle of deferrals is deferred on a member
 pub cycle_closed : (s : State) (members : List ℕ) → IsCycle s members → (x : ℕ) → In x members → (y : ℕ) × In y members × IsDeferredOn s x y
@@ -132,4 +93,4 @@ deferrals_turn s (z ∷ zs) r h m = let t = cycle_turns (is_deferred_on s) z (z 
 
 -- the cycle of a state is empty exactly where there is no cycle through the robot
 pub cycle_of_some : (s : State) (r : ℕ) → length s.pending ≡ length s.fleet.starts → (cycle_of s r ≢ []) ↔ ((others : List ℕ) × IsCycle s (r ∷ others))
-cycle_of_some s r e = least_some (is_deferred_on s) r (cycle_of s r) (cycle_of_least s r e)
+cycle_of_some s r e = least_cycle_some (is_deferred_on s) r (cycle_of s r) (cycle_of_least s r e)

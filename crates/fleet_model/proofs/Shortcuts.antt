@@ -1,9 +1,8 @@
 -- A walk that comes to a cell twice has a cheaper one; a walk without repeats is short.
-use Rattle.std.proofs.Common.{◌≡◌, ℕ, ◌<◌, ◌≤◌, true, false, not, ◌==◌, inl, inr, refl, sym, ap, ◌∙◌, subst, List, [], ◌∷◌, map, length, eqb, arith}
-use Rattle.std.proofs.lemmas.Bool.{both_ways, and_parts, and_cases, or_parts, not-true, not-false, eqb-true, eqb-false, ne_eqb}
+use Rattle.std.proofs.Common.{◌≡◌, ℕ, ◌<◌, ◌≤◌, true, false, not, ◌==◌, inl, inr, refl, sym, ap, ◌∙◌, subst, List, [], ◌∷◌, map, length, arith}
+use Rattle.std.proofs.lemmas.Bool.{both_ways, and_cases, not-false, eqb-true}
 use Rattle.std.proofs.lemmas.List.{length-map}
-use Rattle.std.proofs.lemmas.Map.Steps.{length-le_from_distinct_below}
-use Rattle.std.specs.List.{list_any, IsDistinct, AllByRecursion}
+use Rattle.std.specs.List.{list_any}
 use Rattle.std.specs.Option.{unwrap_or}
 use Rattle.fleet_base.specs.declared.numbers.CellNo.{CellNo}
 use Rattle.fleet_model.specs.Lists.{In, here, there}
@@ -11,8 +10,10 @@ use Rattle.fleet_model.specs.Cycles.{are_distinct}
 use Rattle.fleet_model.specs.Sites.{Site, IsSite, cell_count, link_cost, is_linked, IsWalkFrom, last_cell}
 use Rattle.fleet_model.specs.Routes.{cost_from}
 use Rattle.fleet_model.proofs.Lists.{In_unmap}
-use Rattle.fleet_model.proofs.Tests.{any_In, some_of}
-use Rattle.fleet_model.proofs.RouteOrder.{same_cell}
+use Rattle.fleet_model.proofs.Options.{some_of}
+use Rattle.fleet_model.proofs.Tests.{any_In}
+use Rattle.fleet_model.proofs.SameNumbers.{same_cell}
+use Rattle.fleet_model.proofs.Distinct.{distinct_length}
 
 -- no cell comes twice
 abbrev pub IsSimple : List CellNo → Type 0
@@ -25,35 +26,12 @@ numbered_In a cells h =
     let b = In_unmap (λ (b : CellNo). b.0) cells n.1 in
     subst (λ c. In c cells) (same_cell b.0 a (sym b.2 ∙ eqb-true n.0 a.0 n.2)) b.1
 
--- of distinct numbers none equals a later one
-apart : (x : ℕ) (xs : List ℕ) → list_any (λ q. q == x) xs ≡ false → AllByRecursion (λ y. eqb x y ≡ false) xs
-apart x [] h = tt
-apart x (y ∷ ys) h =
-    let p = or_parts (y == x) (list_any (λ q. q == x) ys) h in
-    (ne_eqb x y (λ e. eqb-false y x p.0 (sym e)), apart x ys p.1)
-
--- the two words for distinct numbers agree
-distinct : (xs : List ℕ) → are_distinct xs ≡ true → IsDistinct eqb xs
-unfolding IsDistinct
-distinct [] h = tt
-distinct (x ∷ xs) h =
-    let p = and_parts (not (list_any (λ q. q == x) xs)) (are_distinct xs) h in
-    (apart x xs (not-true (list_any (λ q. q == x) xs) p.0), distinct xs p.1)
-
 -- different cells below a number are at most as many
 pub pigeons : (n : ℕ) (cells : List CellNo) → IsSimple cells → ((a : CellNo) → In a cells → a.0 < n) → length cells ≤ n
 pigeons n cells h below =
-    let xs : List ℕ = map (λ (a : CellNo). a.0) cells in
-    let few : length xs ≤ n = length-le_from_distinct_below xs n (distinct xs h) among in
-    let l : length xs ≡ length cells = length-map cells (λ (a : CellNo). a.0) in
+    let l : length (map (λ (a : CellNo). a.0) cells) ≡ length cells = length-map cells (λ (a : CellNo). a.0) in
+    let few = distinct_length n (map (λ (a : CellNo). a.0) cells) h (λ x m. let a = In_unmap (λ (a : CellNo). a.0) cells m in subst (λ y. y < n) (sym a.2) (below a.0 a.1)) in
     omega arith
-  where
-    among : (q : ℕ) → list_any (eqb q) (map (λ (a : CellNo). a.0) cells) ≡ true → q < n
-    among q k =
-        let m = any_In (eqb q) (map (λ (a : CellNo). a.0) cells) k in
-        let a = In_unmap (λ (a : CellNo). a.0) cells m.1 in
-        let e : q ≡ a.0.0 = eqb-true q m.0 m.2 ∙ a.2 in
-        subst (λ x. x < n) (sym e) (below a.0 a.1)
 
 module _ (site : Site) where
   -- another walk to the same last cell, from x on, that is cheaper and has no other cells

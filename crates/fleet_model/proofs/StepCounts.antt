@@ -1,20 +1,11 @@
--- How many steps a route has.
-use Rattle.std.proofs.Common.{◌≡◌, ◌+◌, ◌*◌, ◌≤◌, Bool, true, false, cond, not, List, [], ◌∷◌, map, length, arith}
+-- A route of two cells has an event, and no route has more than seven for each of its cells.
+use Rattle.std.proofs.Common.{◌≡◌, ◌+◌, ◌*◌, ◌≤◌, not, List, [], ◌∷◌, map, length, arith}
 use Rattle.std.proofs.lemmas.List.{length-append, length-map}
-use Rattle.std.specs.List.{filter}
 use Rattle.fleet_base.specs.declared.numbers.CellNo.{CellNo}
 use Rattle.fleet_base.specs.declared.numbers.ClaimNo.{ClaimNo}
 use Rattle.fleet_base.specs.declared.numbers.Kind.TheVariants.{Acquire, Move, Release}
 use Rattle.fleet_model.specs.Sites.{Site, IsSite, footprint_of, has_claim, without, step, steps_from, steps}
-
--- a filter keeps no more elements than there are
-pub length-filter-le : {A : Type 0} (p : A → Bool) (xs : List A) → length (filter p xs) ≤ length xs
-length-filter-le p [] = omega arith
-length-filter-le p (x ∷ xs) = go (p x) (length-filter-le p xs)
-  where
-    go : (b : Bool) → length (filter p xs) ≤ length xs → length (cond b (x ∷ filter p xs) (filter p xs)) ≤ length (x ∷ xs)
-    go true l = omega arith
-    go false l = omega arith
+use Rattle.fleet_model.proofs.Filters.{length-filter-le}
 
 module _ (site : Site) where
   -- a step moves once, and acquires and releases what the two footprints differ in

@@ -1,46 +1,22 @@
--- The longest tail of a robot's events that may be withdrawn.
+-- The removable tail of a robot's events may be withdrawn, and none that may be is longer.
 use Rattle.std.proofs.Common.{◌≡◌, ℕ, ◌+◌, ◌-◌, ◌≤◌, Bool, true, false, cond, not, ◌&&◌, ◌⊎◌, inl, inr, refl, sym, ap, ◌∙◌, subst, List, [], ◌∷◌, ◌++◌, map, length, take, drop, arith, length-append, length-drop, Option, Some, None}
-use Rattle.std.proofs.lemmas.Bool.{both_ways, cases_Bool, not-true, and_parts, and_from, or_parts, or_from, not_from_false}
+use Rattle.std.proofs.lemmas.Bool.{both_ways, cases_Bool, not-true, and_parts, and_from, not_from_false}
 use Rattle.std.proofs.lemmas.List.{append-nil, map-append, length-map, take-map, take-append-drop}
 use Rattle.std.proofs.Math.Seq.{take-append_seam, drop-append_seam}
 use Rattle.std.specs.Prelude.{slice_get, find}
-use Rattle.std.specs.List.{list_any, list_all}
+use Rattle.std.specs.List.{list_any}
 use Rattle.std.specs.Option.{unwrap_or}
 use Rattle.fleet_base.specs.declared.numbers.CellNo.{CellNo}
-use Rattle.fleet_base.specs.declared.numbers.ClaimNo.{ClaimNo}
 use Rattle.fleet_base.specs.declared.numbers.Event.{Event}
 use Rattle.fleet_base.specs.declared.numbers.Kind.{Kind}
-use Rattle.fleet_base.specs.declared.numbers.Kind.TheVariants.{Acquire, Move, Release}
 use Rattle.fleet_model.specs.Lists.{In, here, there}
-use Rattle.fleet_model.specs.Sites.{Site, footprint_of, without, step, steps_from, IsWalkFrom, rest_points, moved_to, last_cell}
+use Rattle.fleet_model.specs.Sites.{Site, step, steps_from, IsWalkFrom, rest_points, moved_to, last_cell}
 use Rattle.fleet_model.specs.Replays.{AreSteps}
 use Rattle.fleet_model.specs.Plans.{Fleet, own, kinds, is_done, is_awaited, rests_of, is_removable, removable_tail, IsRemovableTail}
 use Rattle.fleet_model.specs.Good.{IsGoodPlan}
 use Rattle.fleet_model.proofs.Lists.{In_either, In-map, In_unmap}
-use Rattle.fleet_model.proofs.Grown.{steps-append}
-
-moved_to-append : (js ks : List Kind) → moved_to (js ++ ks) ≡ moved_to js ++ moved_to ks
-moved_to-append [] ks = refl
-moved_to-append (Acquire c ∷ js) ks = moved_to-append js ks
-moved_to-append (Move a b ∷ js) ks = ap (λ cs. b ∷ cs) (moved_to-append js ks)
-moved_to-append (Release c ∷ js) ks = moved_to-append js ks
-
-moved_to-acquires : (cs : List ClaimNo) → moved_to (map (λ c. Acquire c) cs) ≡ []
-moved_to-acquires [] = refl
-moved_to-acquires (c ∷ cs) = moved_to-acquires cs
-
-moved_to-releases : (cs : List ClaimNo) → moved_to (map (λ c. Release c) cs) ≡ []
-moved_to-releases [] = refl
-moved_to-releases (c ∷ cs) = moved_to-releases cs
-
-moved_to-step : (site : Site) (a b : CellNo) → moved_to (step site a b) ≡ b ∷ []
-moved_to-step site a b =
-    moved_to-append (map (λ c. Acquire c) (without (footprint_of site b) (footprint_of site a))) (Move a b ∷ map (λ c. Release c) (without (footprint_of site a) (footprint_of site b)))
-    ∙ rw (moved_to-acquires (without (footprint_of site b) (footprint_of site a)), moved_to-releases (without (footprint_of site a) (footprint_of site b))) refl
-
-pub moved_to-steps : (site : Site) (a : CellNo) (cells : List CellNo) → moved_to (steps_from site a cells) ≡ cells
-moved_to-steps site a [] = refl
-moved_to-steps site a (b ∷ bs) = moved_to-append (step site a b) (steps_from site b bs) ∙ rw (moved_to-step site a b, moved_to-steps site b bs) refl
+use Rattle.fleet_model.proofs.Tests.{any_none, none_any, In_all, all_In}
+use Rattle.fleet_model.proofs.Steps.{steps-append, walk_front, moved_to-append, moved_to-steps}
 
 -- a place of rest of a walk: a beginning of the walk and what is behind it
 pub record IsRest (site : Site) (a : CellNo) (cells : List CellNo) (n : ℕ) : Type 0 where
@@ -111,46 +87,29 @@ choose p f low (j ∷ js) n rise i h = go (cases_Bool (p (f j))) (λ k. choose p
         let c = ih (In_either i (λ e. absurd (both_ways (p (f j)) u (subst (λ k. p (f k) ≡ true) e h))) (λ k. k)) in
         record { place = c.place; found = subst (λ b. cond b (Some (f j)) (find p (map f js)) ≡ Some (f c.place)) (sym u) c.found; among = there c.among; passes = c.passes; first = c.first }
 
-any_none : (p : Event → Bool) (xs : List Event) → ((x : Event) → In x xs → p x ≡ false) → list_any p xs ≡ false
-any_none p [] h = refl
-any_none p (x ∷ xs) h = or_from (p x) (list_any p xs) (h x (here refl)) (any_none p xs (λ y i. h y (there i)))
-
-none_any : (p : Event → Bool) (xs : List Event) (x : Event) → In x xs → list_any p xs ≡ false → p x ≡ false
-none_any p [] x i h = elim i [ ]
-none_any p (y ∷ ys) x i h = let o = or_parts (p y) (list_any p ys) h in In_either i (λ e. rw e o.0) (λ k. none_any p ys x k o.1)
-
-all_from : (p : Event → Bool) (xs : List Event) → ((x : Event) → In x xs → p x ≡ true) → list_all p xs ≡ true
-all_from p [] h = refl
-all_from p (x ∷ xs) h = and_from (p x) (list_all p xs) (h x (here refl)) (all_from p xs (λ y i. h y (there i)))
-
-all_at : (p : Event → Bool) (xs : List Event) (x : Event) → In x xs → list_all p xs ≡ true → p x ≡ true
-all_at p [] x i h = elim i [ ]
-all_at p (y ∷ ys) x i h = let a = and_parts (p y) (list_all p ys) h in In_either i (λ e. rw e a.0) (λ k. all_at p ys x k a.1)
-
-pub removable_from : (m : Fleet) (tail : List Event) → ((f : Event) → In f tail → is_done m.finished f ≡ false) → ((e f : Event) → In e m.plan → In f tail → is_awaited m.site e f ≡ false) → is_removable m tail ≡ true
+-- unfinished events that nothing stands behind pass the test of a removable list
+pub removable_from : (m : Fleet) (tail : List Event) → ((f : Event) → In f tail → is_done m.finished f ≡ false) → ((e f : Event) → In e m.plan → In f tail → is_awaited m.site.groups e f ≡ false) → is_removable m tail ≡ true
 removable_from m tail undone unawaited =
-    all_from (λ f. not (is_done m.finished f) && not (list_any (λ e. is_awaited m.site e f) m.plan)) tail
-    (λ f i. and_from (not (is_done m.finished f)) (not (list_any (λ e. is_awaited m.site e f) m.plan)) (not_from_false (is_done m.finished f) (undone f i))
-    (not_from_false (list_any (λ e. is_awaited m.site e f) m.plan) (any_none (λ e. is_awaited m.site e f) m.plan (λ e j. unawaited e f j i))))
+    In_all (λ f. not (is_done m.finished f) && not (list_any (λ e. is_awaited m.site.groups e f) m.plan)) tail
+    (λ f i. and_from (not (is_done m.finished f)) (not (list_any (λ e. is_awaited m.site.groups e f) m.plan)) (not_from_false (is_done m.finished f) (undone f i))
+    (not_from_false (list_any (λ e. is_awaited m.site.groups e f) m.plan) (any_none (λ e. is_awaited m.site.groups e f) m.plan (λ e j. unawaited e f j i))))
 
 -- each event of a removable list is unfinished, and nothing stands behind it
-removable_at : (m : Fleet) (tail : List Event) (f : Event) → In f tail → is_removable m tail ≡ true → (is_done m.finished f ≡ false) × (list_any (λ e. is_awaited m.site e f) m.plan ≡ false)
+removable_at : (m : Fleet) (tail : List Event) (f : Event) → In f tail → is_removable m tail ≡ true → (is_done m.finished f ≡ false) × (list_any (λ e. is_awaited m.site.groups e f) m.plan ≡ false)
 removable_at m tail f i h =
-    let a = and_parts (not (is_done m.finished f)) (not (list_any (λ e. is_awaited m.site e f) m.plan)) (all_at (λ f. not (is_done m.finished f) && not (list_any (λ e. is_awaited m.site e f) m.plan)) tail f i h) in
-    (not-true (is_done m.finished f) a.0, not-true (list_any (λ e. is_awaited m.site e f) m.plan) a.1)
+    let a = and_parts (not (is_done m.finished f)) (not (list_any (λ e. is_awaited m.site.groups e f) m.plan)) (all_In (λ f. not (is_done m.finished f) && not (list_any (λ e. is_awaited m.site.groups e f) m.plan)) tail h i) in
+    (not-true (is_done m.finished f) a.0, not-true (list_any (λ e. is_awaited m.site.groups e f) m.plan) a.1)
 
--- a beginning of a walk is a walk
-walk_front : (site : Site) (a : CellNo) (front back : List CellNo) → IsWalkFrom site a (front ++ back) → IsWalkFrom site a front
-walk_front site a [] back h = tt
-walk_front site a (b ∷ bs) back h = (h.0, walk_front site b bs back h.1)
-
+-- what these events do
 abbrev kinds_of : List Event → List Kind
 kinds_of es = map (λ (e : Event). e.kind) es
 
 module _ (m : Fleet) (r : ℕ) where
+  -- the robot's planned events
   abbrev mine : List Event
   mine = own r m.plan
 
+  -- those from a place on
   abbrev from_place : ℕ → List Event
   from_place n = drop n mine
 
@@ -207,7 +166,7 @@ module _ (m : Fleet) (r : ℕ) where
         splits = sym (take-append-drop chosen.place mine);
         rests = subst (λ o. AreSteps m.site o (kinds_of (take chosen.place mine))) (sym e) (front_rests a chosen.place steps chosen.among);
         undone = λ f i. (removable_at m (from_place chosen.place) f i chosen.passes).0;
-        unawaited = λ x f i j. none_any (λ y. is_awaited m.site y f) m.plan x i (removable_at m (from_place chosen.place) f j chosen.passes).1;
+        unawaited = λ x f i j. none_any (λ y. is_awaited m.site.groups y f) m.plan x i (removable_at m (from_place chosen.place) f j chosen.passes).1;
       }
     where
       chosen : IsChosen (is_removable m) from_place (rest_points m.site a (moved_to (kinds r m.plan))) (length mine)

@@ -1,10 +1,9 @@
--- What a test of a list's elements says of its members.
-use Rattle.std.proofs.Common.{◌≡◌, Bool, true, false, cond, ◌⊎◌, inl, inr, refl, sym, ap, ◌∙◌, List, [], ◌∷◌, Option, Some, None}
-use Rattle.std.proofs.lemmas.Bool.{both_ways, or_cases, or_left, or_right, and_parts, and_from}
-use Rattle.std.specs.List.{list_any, list_all, find, flat_map}
-use Rattle.std.specs.Option.{is_some, option_map}
+-- What tests of a list's elements say of its members.
+use Rattle.std.proofs.Common.{◌≡◌, Bool, true, false, cond, ◌⊎◌, inl, inr, refl, sym, ap, ◌∙◌, List, [], ◌∷◌, Option, Some}
+use Rattle.std.proofs.lemmas.Bool.{both_ways, or_cases, or_left, or_right, and_parts, and_from, or_from, false_from_ne_true}
+use Rattle.std.specs.List.{list_any, list_all, find}
+use Rattle.std.specs.Option.{is_some}
 use Rattle.fleet_model.specs.Lists.{In, here, there}
-use Rattle.fleet_model.proofs.Lists.{In-append_left, In-append_right, In-append_cases}
 
 module _ {A : Type 0} (p : A → Bool) where
   -- where some element passes, here is one
@@ -17,6 +16,15 @@ module _ {A : Type 0} (p : A → Bool) where
   In_any [] m h = elim m [ ]
   In_any (y ∷ ys) (here e) h = or_left (p y) (list_any p ys) (ap p (sym e) ∙ h)
   In_any (y ∷ ys) (there m) h = or_right (p y) (list_any p ys) (In_any ys m h)
+
+  -- where no member passes, the test of some element is false
+  pub any_none : (xs : List A) → ((x : A) → In x xs → p x ≡ false) → list_any p xs ≡ false
+  any_none [] h = refl
+  any_none (x ∷ xs) h = or_from (p x) (list_any p xs) (h x (here refl)) (any_none xs (λ y i. h y (there i)))
+
+  -- where the test of some element is false, no member passes
+  pub none_any : (xs : List A) (x : A) → In x xs → list_any p xs ≡ false → p x ≡ false
+  none_any xs x i h = false_from_ne_true (p x) (λ t. both_ways (list_any p xs) h (In_any xs i t))
 
   -- where each element passes, each member does
   pub all_In : {x : A} (xs : List A) → list_all p xs ≡ true → In x xs → p x ≡ true
@@ -49,23 +57,3 @@ module _ {A : Type 0} (p : A → Bool) where
   In_found [] m h = elim m [ ]
   In_found (y ∷ ys) (here e) h = ap (λ b. is_some (cond b (Some y) (find p ys))) (ap p (sym e) ∙ h)
   In_found (y ∷ ys) (there m) h = find_on y (find p ys) (p y) refl (In_found ys m h)
-
--- an option that is there has a value
-pub some_of : {A : Type 0} (o : Option A) → is_some o ≡ true → (x : A) × (o ≡ Some x)
-some_of None h = absurd (both_ways false refl h)
-some_of (Some x) h = (x, refl)
-
-pub is_some-map : {A B : Type 0} (f : A → B) (o : Option A) → is_some (option_map f o) ≡ is_some o
-is_some-map f None = refl
-is_some-map f (Some x) = refl
-
--- a member of one of the lists is a member of them joined
-pub In-flat_map : {A B : Type 0} (f : A → List B) {x : A} {y : B} (xs : List A) → In x xs → In y (f x) → In y (flat_map f xs)
-In-flat_map f [] m h = elim m [ ]
-In-flat_map f {x} {y} (z ∷ zs) (here e) h = In-append_left (f z) (flat_map f zs) (rw (sym e) h)
-In-flat_map f (z ∷ zs) (there m) h = In-append_right (f z) (flat_map f zs) (In-flat_map f zs m h)
-
--- a member of the joined lists is a member of one of them
-pub In_unflat_map : {A B : Type 0} (f : A → List B) {y : B} (xs : List A) → In y (flat_map f xs) → (x : A) × In x xs × In y (f x)
-In_unflat_map f [] m = elim m [ ]
-In_unflat_map f (x ∷ xs) m = elim (In-append_cases (f x) (flat_map f xs) m) [ inl h ↦ (x, here refl, h) | inr h ↦ (let r = In_unflat_map f xs h in (r.0, there r.1, r.2)) ]

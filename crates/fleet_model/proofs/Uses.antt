@@ -10,8 +10,9 @@ use Rattle.fleet_model.specs.Replays.{Spot, after_kind, after_kinds, opening}
 use Rattle.fleet_model.specs.Plans.{Fleet, own, kinds}
 use Rattle.fleet_model.specs.Good.{IsAscending, IsGoodPlan, Opens, Closes}
 use Rattle.fleet_model.proofs.Numbers.{low_bound, IsAscending-own, In_own, own_In, from_one}
-use Rattle.fleet_model.proofs.Alone.{same_claim}
+use Rattle.fleet_model.proofs.SameNumbers.{same_claim}
 
+-- a claim that one thing done takes away was released by it
 released_now : (k : Kind) (s : Spot) (d : ClaimNo) → s.holds d ≡ true → (after_kind k s).holds d ≡ false → k ≡ Release d
 released_now (Acquire c) s d h g = absurd (both_ways (s.holds d) (or_parts (c.0 == d.0) (s.holds d) g).1 h)
 released_now (Move a b) s d h g = absurd (both_ways (s.holds d) g h)

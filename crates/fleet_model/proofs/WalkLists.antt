@@ -1,4 +1,4 @@
--- The walks that a site lists: those of at most so many steps.
+-- The walks of at most so many steps are all listed, and nothing else is.
 use Rattle.std.proofs.Common.{◌≡◌, ℕ, zero, suc, ◌+◌, ◌≤◌, Bool, true, ◌==◌, refl, sym, ap, ◌∙◌, subst, List, [], ◌∷◌, map, length, Option, Some, arith, eq-eqb}
 use Rattle.std.proofs.lemmas.Bool.{eqb-true}
 use Rattle.std.specs.Prelude.{slice_get}
@@ -8,9 +8,10 @@ use Rattle.fleet_base.specs.declared.numbers.Link.{Link}
 use Rattle.fleet_model.specs.Lists.{In, here, there}
 use Rattle.fleet_model.specs.Sites.{Site, links_from, link_cost, is_linked, IsWalk, IsWalkFrom}
 use Rattle.fleet_model.specs.Routes.{walks}
-use Rattle.fleet_model.proofs.Lists.{In-map, In_unmap}
-use Rattle.fleet_model.proofs.Tests.{found_In, In_found, some_of, is_some-map, In-flat_map, In_unflat_map}
-use Rattle.fleet_model.proofs.RouteOrder.{same_cell}
+use Rattle.fleet_model.proofs.Lists.{In-map, In_unmap, In-flat_map, In_unflat_map}
+use Rattle.fleet_model.proofs.Options.{some_of, is_some-map}
+use Rattle.fleet_model.proofs.Tests.{found_In, In_found}
+use Rattle.fleet_model.proofs.SameNumbers.{same_cell}
 
 module _ (site : Site) where
   -- a cell is linked to another where a link from it leads there

@@ -8,11 +8,14 @@ use Rattle.fleet_base.specs.declared.numbers.Kind.TheVariants.{Acquire, Move, Re
 use Rattle.fleet_model.specs.Sites.{footprint_of, Site, IsSite, IsDistinct, has_claim, without, step, steps_from, last_cell}
 use Rattle.fleet_model.specs.Replays.{IsStanding, AreSteps, Spot, CanDo, CanDoAll, standing, start_at, after_kind, after_kinds}
 use Rattle.fleet_model.proofs.Claims.{footprint_distinct}
-use Rattle.fleet_model.proofs.Alone.{same_claim, CanDoAll-append, after_kinds-append}
+use Rattle.fleet_model.proofs.SameNumbers.{same_claim}
+use Rattle.fleet_model.proofs.Alone.{CanDoAll-append, after_kinds-append}
 
+-- acquiring these claims
 abbrev acquires : List ClaimNo → List Kind
 acquires cs = map (λ c. Acquire c) cs
 
+-- releasing these claims
 abbrev releases : List ClaimNo → List Kind
 releases cs = map (λ c. Release c) cs
 
@@ -48,6 +51,7 @@ released-cell s (c ∷ cs) = released-cell (after_kind (Release c) s) cs
 other : (c d : ClaimNo) (cs : List ClaimNo) → has_claim cs c ≡ false → has_claim cs d ≡ true → (c.0 == d.0) ≡ false
 other c d cs h g = false_from_ne_true (c.0 == d.0) (λ e. both_ways (has_claim cs d) (rw (same_claim c d e) at h) g)
 
+-- a list has its first claim
 has_first : (c : ClaimNo) (cs : List ClaimNo) → has_claim (c ∷ cs) c ≡ true
 has_first c cs = or_left (c.0 == c.0) (has_claim cs c) (eq-eqb c.0 c.0 refl)
 
@@ -100,14 +104,17 @@ step_leaves true false = refl
 step_leaves false true = refl
 step_leaves false false = refl
 
+-- what was held stays held when more is acquired
 keeps_old : (x y : Bool) → x ≡ true → ((y && not x) || x) ≡ true
 keeps_old x y h = or_right (y && not x) x h
 
+-- what is acquired is held
 gets_new : (x y : Bool) → y ≡ true → ((y && not x) || x) ≡ true
 gets_new true y h = or_right (y && false) true refl
 gets_new false true h = refl
 gets_new false false h = h
 
+-- what is acquired was not held
 unheld : (x y : Bool) → (y && not x) ≡ true → x ≡ false
 unheld x y h = not-true x (and_parts y (not x) h).1
 

@@ -1,4 +1,4 @@
--- A withdrawal keeps a plan good.
+-- A withdrawal keeps a plan good, and leaves the ends of the others.
 use Rattle.std.proofs.Common.{◌≡◌, ◌≢◌, ℕ, Bool, true, false, not, ◌==◌, ◌⊎◌, inl, inr, refl, sym, ap, ◌∙◌, subst, List, [], ◌∷◌, ◌++◌, map, arith}
 use Rattle.std.proofs.lemmas.Bool.{both_ways, cases_Bool, cases_eq, not-false, not-true, not_from_false}
 use Rattle.std.proofs.lemmas.List.{append-nil}
@@ -12,29 +12,25 @@ use Rattle.fleet_model.specs.Sites.{in_conflict}
 use Rattle.fleet_model.specs.Replays.{AreSteps}
 use Rattle.fleet_model.specs.Plans.{Fleet, own, kinds, end_of, is_done, IsReady, IsBehind, IsOrder, withdrawn, removable_tail, IsRemovableTail}
 use Rattle.fleet_model.specs.Good.{IsAscending, IsGoodPlan, Opens, Closes}
-use Rattle.fleet_model.proofs.Lists.{In-append_right, In-filter, In_unfilter, filter_in, filter_out}
+use Rattle.fleet_model.proofs.Lists.{In-append_right, In-filter, In_unfilter}
 use Rattle.fleet_model.proofs.Numbers.{IsAscending-filter, IsAscending-own, ascending_apart, one_event, own_In, done_in, done_event, done_none, from_one}
 use Rattle.fleet_model.proofs.Claims.{conflict_symmetric}
 use Rattle.fleet_model.proofs.Safe.{awaited_from}
 use Rattle.fleet_model.proofs.Ends.{end_same}
-use Rattle.fleet_model.proofs.Further.{filter_swap, ready_stays}
+use Rattle.fleet_model.proofs.Readiness.{ready_stays}
 use Rattle.fleet_model.proofs.Tails.{tail_is}
-
-pub filter_all : (p : Event → Bool) (es : List Event) → ((e : Event) → In e es → p e ≡ true) → filter p es ≡ es
-filter_all p [] h = refl
-filter_all p (e ∷ es) h = filter_in p e es (h e (here refl)) ∙ ap (λ zs. e ∷ zs) (filter_all p es (λ x i. h x (there i)))
-
-pub filter_none : (p : Event → Bool) (es : List Event) → ((e : Event) → In e es → p e ≡ false) → filter p es ≡ []
-filter_none p [] h = refl
-filter_none p (e ∷ es) h = filter_out p e es (h e (here refl)) ∙ filter_none p es (λ x i. h x (there i))
+use Rattle.fleet_model.proofs.Filters.{filter_swap, filter_all, filter_none}
 
 module _ (m : Fleet) (r : ℕ) (tail : List Event) (good : IsGoodPlan m) (removable : IsRemovableTail m r tail) where
+  -- the plan without the tail
   abbrev after : Fleet
   after = withdrawn m tail
 
+  -- the event is not of the tail
   abbrev stays : Event → Bool
   stays e = not (is_done tail e)
 
+  -- these events of the robot are the steps of one walk from its start
   abbrev Rests : List Event → Type 0
   Rests es = AreSteps m.site (slice_get m.starts r) (map (λ (e : Event). e.kind) es)
 
@@ -61,7 +57,7 @@ module _ (m : Fleet) (r : ℕ) (tail : List Event) (good : IsGoodPlan m) (remova
   -- of the robot's own events those in front of the tail are left
   pub own_left : own r after.plan ≡ removable.front
   own_left =
-      filter_swap (λ e. e.robot.0 == r) stays m.plan
+      filter_swap (λ (e : Event). e.robot.0 == r) stays m.plan
       ∙ (ap (λ es. filter stays es) removable.splits
       ∙ (filter-append stays removable.front tail
       ∙ (ap (λ es. es ++ filter stays tail) (filter_all stays removable.front (λ e i. not_from_false (is_done tail e) (done_none tail e (λ g j n. let l = ascending_apart 1 removable.front tail rises i j in absurd (omega arith)))))
@@ -70,13 +66,14 @@ module _ (m : Fleet) (r : ℕ) (tail : List Event) (good : IsGoodPlan m) (remova
       rises : IsAscending 1 (removable.front ++ tail)
       rises = subst (λ es. IsAscending 1 es) removable.splits (IsAscending-own r 1 m.plan (from_one m good))
 
+  -- another robot's events stay
   own_still : (q : ℕ) → (r ≡ q → ⊥) → own q after.plan ≡ own q m.plan
   own_still q apart =
-      filter_swap (λ e. e.robot.0 == q) stays m.plan
+      filter_swap (λ (e : Event). e.robot.0 == q) stays m.plan
       ∙ filter_all stays (own q m.plan) (λ e i. let o = own_In q m.plan i in other_stays e o.0 (λ h. apart (sym h ∙ o.1)) (cases_Bool (stays e)))
 
   -- an order of finished events stays one
-  order_kept : (done order : List Event) → ((e : Event) → In e order → is_done m.finished e ≡ true) → IsOrder (IsBehind m.site) m.plan done order → IsOrder (IsBehind m.site) after.plan done order
+  order_kept : (done order : List Event) → ((e : Event) → In e order → is_done m.finished e ≡ true) → IsOrder (IsBehind m.site.groups) m.plan done order → IsOrder (IsBehind m.site.groups) after.plan done order
   order_kept done [] f h = tt
   order_kept done (e ∷ es) f h = (
     record { planned = In-filter stays m.plan h.0.planned (stays_done e h.0.planned (f e (here refl)) (cases_Bool (stays e))); undone = h.0.undone; waited = λ x i b. h.0.waited x (In_unfilter stays m.plan i).0 b },
@@ -94,7 +91,7 @@ module _ (m : Fleet) (r : ℕ) (tail : List Event) (good : IsGoodPlan m) (remova
   opens_before q c n (inr o) = inr (o.0, (In_unfilter stays m.plan o.1).0, o.2, o.3, o.4)
 
   -- the release that a later use stands behind stays
-  closes_still : (q s : ℕ) (c d : ClaimNo) (n k : ℕ) → q ≢ s → in_conflict m.site d c ≡ true → Opens m s d k → Closes m.plan q c n k → Closes after.plan q c n k
+  closes_still : (q s : ℕ) (c d : ClaimNo) (n k : ℕ) → q ≢ s → in_conflict m.site.groups d c ≡ true → Opens m s d k → Closes m.plan q c n k → Closes after.plan q c n k
   closes_still q s c d n k apart conflict opens x =
       record { event = x.event; planned = In-filter stays m.plan x.planned (kept opens (cases_Bool (stays x.event))); robot = x.robot; kind = x.kind; above = x.above; below = x.below }
     where
@@ -115,7 +112,7 @@ module _ (m : Fleet) (r : ℕ) (tail : List Event) (good : IsGoodPlan m) (remova
     walks = λ q. walk_at q (cases_eq r q);
     finished = order_kept [] m.finished (λ e i. done_in m.finished i) good.finished;
     uses = λ q s c d n k apart conflict x y. elim (good.uses q s c d n k apart conflict (opens_before q c n x) (opens_before s d k y)) [
-      | inl u ↦ inl (closes_still q s c d n k apart (conflict_symmetric m.site c d conflict) (opens_before s d k y) u)
+      | inl u ↦ inl (closes_still q s c d n k apart (conflict_symmetric m.site.groups c d conflict) (opens_before s d k y) u)
       | inr u ↦ inr (closes_still s q d c k n (λ h. apart (sym h)) conflict (opens_before q c n x) u)
     ];
   }
@@ -127,11 +124,12 @@ module _ (m : Fleet) (r : ℕ) (tail : List Event) (good : IsGoodPlan m) (remova
 pub withdrawn_good : (m : Fleet) (r : ℕ) → IsGoodPlan m → IsGoodPlan (withdrawn m (removable_tail m r))
 withdrawn_good m r good = tail_withdrawn_good m r (removable_tail m r) good (tail_is m r good)
 
+-- a withdrawal leaves the other robots their ends
 pub withdrawn_end : (m : Fleet) (r q : ℕ) → IsGoodPlan m → (r ≡ q → ⊥) → end_of (withdrawn m (removable_tail m r)) q ≡ end_of m q
 withdrawn_end m r q good apart = tail_withdrawn_end m r (removable_tail m r) good (tail_is m r good) q apart
 
 -- a ready event stays ready under a withdrawal by another robot
-pub ready_withdrawn : (m : Fleet) (r : ℕ) (e : Event) → IsGoodPlan m → (r ≡ e.robot.0 → ⊥) → IsReady (IsBehind m.site) m.plan m.finished e → IsReady (IsBehind m.site) (withdrawn m (removable_tail m r)).plan m.finished e
+pub ready_withdrawn : (m : Fleet) (r : ℕ) (e : Event) → IsGoodPlan m → (r ≡ e.robot.0 → ⊥) → IsReady (IsBehind m.site.groups) m.plan m.finished e → IsReady (IsBehind m.site.groups) (withdrawn m (removable_tail m r)).plan m.finished e
 ready_withdrawn m r e good apart ready =
     ready_stays m (removable_tail m r) e
     (not-true _ (other_stays m r (removable_tail m r) good (tail_is m r good) e ready.planned (λ h. apart (sym h)) (cases_Bool (not (is_done (removable_tail m r) e))))) ready

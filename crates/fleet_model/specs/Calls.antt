@@ -1,8 +1,7 @@
 -- The calls: each with its refusals in order, its answer and the state that it leaves.
-use Rattle.std.specs.Prelude.{true, false, ◌≡◌, ℕ, ◌+◌, ◌-◌, Bool, not, ◌&&◌, ◌==◌, nat_lt, nat_le, List, [], ◌∷◌, ◌++◌, map, length, position, count_by, find, Option, Some, None, Result, Ok, Err, slice_get, slice_set, slice_index_or}
-use Rattle.std.specs.List.{filter, list_any}
+use Rattle.std.specs.Prelude.{false, ℕ, ◌+◌, ◌-◌, Bool, not, ◌==◌, nat_lt, nat_le, List, [], ◌∷◌, ◌++◌, length, position, Option, Some, None, Result, Ok, Err, slice_get, slice_set}
+use Rattle.std.specs.List.{list_any}
 use Rattle.std.specs.Option.{is_some, is_none, option_map, option_and_then, unwrap_or, option_to_list}
-use Rattle.fleet_base.specs.Lists.{robots_of}
 use Rattle.fleet_base.specs.declared.answers.Block.{Block}
 use Rattle.fleet_base.specs.declared.answers.CancelRefused.{CancelRefused}
 use Rattle.fleet_base.specs.declared.answers.CancelRefused.TheVariants as cancel_refused
@@ -32,12 +31,11 @@ use Rattle.fleet_base.specs.declared.numbers.CellNo.{CellNo}
 use Rattle.fleet_base.specs.declared.numbers.Event.{Event}
 use Rattle.fleet_base.specs.declared.numbers.EventNo.{EventNo}
 use Rattle.fleet_base.specs.declared.numbers.Span.{Span}
-use Rattle.fleet_model.specs.Lists.{when, first_some, numbers_below}
-use Rattle.fleet_model.specs.Sites.{Site, cell_count, is_linked, needs, steps}
+use Rattle.fleet_model.specs.Lists.{when, first_some}
+use Rattle.fleet_model.specs.Sites.{Site, cell_count, is_linked, steps}
 use Rattle.fleet_model.specs.Plans.{Fleet, unfinished, own, awaited, latest, cell_of, end_of, merged, removable_tail, withdrawn}
-use Rattle.fleet_model.specs.Cycles.{cycle_through}
 use Rattle.fleet_model.specs.Routes.{least_route}
-use Rattle.fleet_model.specs.Deferral.{ends, is_kept_by, least_blocker, is_shut_to}
+use Rattle.fleet_model.specs.Deferral.{is_shut_to}
 use Rattle.fleet_model.specs.States.{State, is_robot, pending_of, pending_route, is_full, block_of}
 
 -- what a call gives: its answer, the entry that it adds to the journal, and the state that it leaves

@@ -1,13 +1,11 @@
 -- Blockers of a route, and who is deferred on whom.
-use Rattle.std.specs.Prelude.{◌≡◌, ℕ, Bool, true, false, not, ◌&&◌, ◌||◌, ◌==◌, nat_lt, nat_le, List, [], ◌∷◌, length, map, Option, Some, None, slice_get, slice_index_or}
+use Rattle.std.specs.Prelude.{ℕ, Bool, false, not, ◌&&◌, ◌||◌, ◌==◌, nat_lt, nat_le, List, length, map, Option, Some, None, slice_get}
 use Rattle.std.specs.List.{filter, list_any}
-use Rattle.std.specs.Option.{unwrap_or}
 use Rattle.fleet_base.specs.declared.numbers.CellNo.{CellNo}
 use Rattle.fleet_base.specs.declared.numbers.ClaimNo.{ClaimNo}
 use Rattle.fleet_model.specs.Lists.{pairs, numbers_below, least}
-use Rattle.fleet_model.specs.Sites.{Site, footprint_of, is_kept_from, needs}
-use Rattle.fleet_model.specs.Plans.{Fleet, end_of, IsBlocker}
-use Rattle.fleet_model.specs.Cycles.{cycle_through}
+use Rattle.fleet_model.specs.Sites.{Site, footprint_of, is_kept_from}
+use Rattle.fleet_model.specs.Plans.{Fleet, end_of}
 
 -- the robots' ends, in order
 abbrev pub ends : Fleet → List CellNo

@@ -1,5 +1,5 @@
 -- What every state keeps.
-use Rattle.std.specs.Prelude.{◌≡◌, ◌≢◌, ℕ, ◌+◌, ◌*◌, ◌<◌, ◌≤◌, true, ◌⊎◌, List, [], ◌∷◌, Option, Some, length, slice_get, count_by}
+use Rattle.std.specs.Prelude.{◌≡◌, ◌≢◌, ℕ, ◌+◌, ◌*◌, ◌<◌, ◌≤◌, true, ◌⊎◌, List, [], ◌∷◌, Option, Some, length, slice_get}
 use Rattle.std.specs.List.{filter}
 use Rattle.std.specs.Option.{is_some}
 use Rattle.fleet_base.specs.declared.numbers.CellNo.{CellNo}
@@ -39,8 +39,8 @@ pub record IsGoodPlan (m : Fleet) : Type 0 where
   pub opened : m.first ≤ m.next
   pub next : (e : Event) → In e m.plan → e.no.0 < m.next
   pub walks : (r : ℕ) → AreSteps m.site (slice_get m.starts r) (kinds r m.plan)
-  pub finished : IsOrder (IsBehind m.site) m.plan [] m.finished
-  pub uses : (r q : ℕ) (c d : ClaimNo) (a b : ℕ) → r ≢ q → in_conflict m.site c d ≡ true → Opens m r c a → Opens m q d b → Closes m.plan r c a b ⊎ Closes m.plan q d b a
+  pub finished : IsOrder (IsBehind m.site.groups) m.plan [] m.finished
+  pub uses : (r q : ℕ) (c d : ClaimNo) (a b : ℕ) → r ≢ q → in_conflict m.site.groups c d ≡ true → Opens m r c a → Opens m q d b → Closes m.plan r c a b ⊎ Closes m.plan q d b a
 
 -- the plan is good; each robot has a place for a pending route, which is legal; and numbers and room keep to their bounds
 pub record IsGood (s : State) : Type 0 where
@@ -53,7 +53,7 @@ pub record IsGood (s : State) : Type 0 where
 -- a state may open a run: numbers begin at 1 at least, no two robots start on claims that conflict, each pending route is legal, and there is room for them
 pub record IsOpening (site : Site) (starts : List CellNo) (pending : List (Option (List CellNo))) (next cap : ℕ) : Type 0 where
   pub first : 1 ≤ next
-  pub apart : (r q : ℕ) (c d : ClaimNo) → r ≢ q → in_conflict site c d ≡ true → (opening site starts r).holds c ≡ true → (opening site starts q).holds d ≡ true → ⊥
+  pub apart : (r q : ℕ) (c d : ClaimNo) → r ≢ q → in_conflict site.groups c d ≡ true → (opening site starts r).holds c ≡ true → (opening site starts q).holds d ≡ true → ⊥
   pub places : length pending ≡ length starts
   pub routes : (r : ℕ) (route : List CellNo) → pending_of (opening_state site starts pending next cap) r ≡ Some route → IsRoute (opening_state site starts pending next cap).fleet r route
   pub room : length (filter is_some pending) ≤ cap

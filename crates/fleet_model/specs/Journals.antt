@@ -1,9 +1,10 @@
 -- Journals: which are legal from an opening state, and the state that they reach.
-use Rattle.std.specs.Prelude.{◌≡◌, List, [], ◌∷◌, Some}
+use Rattle.std.specs.Prelude.{◌≡◌, List, [], ◌∷◌, map, Some}
 use Rattle.fleet_base.specs.declared.entries.Act.{Act}
 use Rattle.fleet_base.specs.declared.entries.Act.TheVariants.{Merged, Deferred, Retried, Canceled, Withdrawn, Replanned, Reported}
 use Rattle.fleet_base.specs.declared.entries.Entry.{Entry}
 use Rattle.fleet_base.specs.declared.numbers.CellNo.{CellNo}
+use Rattle.fleet_base.specs.declared.numbers.Event.{Event}
 use Rattle.fleet_model.specs.Sites.{last_cell}
 use Rattle.fleet_model.specs.States.{State}
 use Rattle.fleet_model.specs.Calls.{Call, Propose, Retry, Cancel, Withdraw, Replan, Report, Turn, turn}
@@ -36,3 +37,7 @@ IsJournal s (entry ∷ entries) = ((turn_at s entry).entry ≡ Some entry) × Is
 abbrev pub state_after : State → List Entry → State
 state_after s [] = s
 state_after s (entry ∷ entries) = state_after (turn_at s entry).after entries
+
+-- the entries of reports of these events, in this order
+abbrev pub report_entries : List Event → List Entry
+report_entries order = map (λ e. record { robot = e.robot; act = Reported e.no }) order

@@ -11,3 +11,5 @@ pub mod Journals
 pub mod Good
 pub mod Sound
 pub mod Examples
+pub mod Yard
+pub mod Tables

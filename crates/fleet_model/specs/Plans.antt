@@ -3,6 +3,7 @@ use Rattle.std.specs.Prelude.{length, slice_get, ◌≡◌, ◌≢◌, ℕ, ◌+
 use Rattle.std.specs.List.{filter, list_any, list_all}
 use Rattle.std.specs.Option.{unwrap_or}
 use Rattle.fleet_base.specs.declared.numbers.CellNo.{CellNo}
+use Rattle.fleet_base.specs.declared.numbers.ClaimGroup.{ClaimGroup}
 use Rattle.fleet_base.specs.declared.numbers.ClaimNo.{ClaimNo}
 use Rattle.fleet_base.specs.declared.numbers.Event.{Event}
 use Rattle.fleet_base.specs.declared.numbers.Kind.{Kind}
@@ -37,32 +38,32 @@ abbrev pub kinds : ℕ → List Event → List Kind
 kinds r events = map (λ e. e.kind) (own r events)
 
 -- the first acquires a claim that conflicts with the one that the second releases
-abbrev pub clashes : Site → Kind → Kind → Bool
-clashes site (Acquire c) (Release d) = in_conflict site c d
-clashes site (Acquire c) (Acquire d) = false
-clashes site (Acquire c) (Move a b) = false
-clashes site (Move a b) k = false
-clashes site (Release c) k = false
+abbrev pub clashes : List ClaimGroup → Kind → Kind → Bool
+clashes groups (Acquire c) (Release d) = in_conflict groups c d
+clashes groups (Acquire c) (Acquire d) = false
+clashes groups (Acquire c) (Move a b) = false
+clashes groups (Move a b) k = false
+clashes groups (Release c) k = false
 
 -- f is a release by another robot, with a smaller number, of a claim that conflicts with the one that e acquires
-abbrev pub is_awaited : Site → Event → Event → Bool
-is_awaited site e f = nat_lt f.no.0 e.no.0 && (not (f.robot.0 == e.robot.0) && clashes site e.kind f.kind)
+abbrev pub is_awaited : List ClaimGroup → Event → Event → Bool
+is_awaited groups e f = nat_lt f.no.0 e.no.0 && (not (f.robot.0 == e.robot.0) && clashes groups e.kind f.kind)
 
 -- the releases that e stands behind
-abbrev pub after : Site → List Event → Event → List Event
-after site plan e = filter (is_awaited site e) plan
+abbrev pub after : List ClaimGroup → List Event → Event → List Event
+after groups plan e = filter (is_awaited groups e) plan
 
 -- the releases that e still waits for
 abbrev pub awaited : Fleet → Event → List Event
-awaited m e = filter (λ f. not (is_done m.finished f)) (after m.site m.plan e)
+awaited m e = filter (λ f. not (is_done m.finished f)) (after m.site.groups m.plan e)
 
 -- the event of greatest number
 abbrev pub latest : List Event → Option Event
 latest events = least (λ e f. nat_le f.no.0 e.no.0) events
 
 -- e comes behind f: f is an earlier event of its robot, or one that e stands behind
-abbrev pub IsBehind : Site → Event → Event → Type 0
-IsBehind site e f = ((f.robot.0 ≡ e.robot.0) × (f.no.0 < e.no.0)) ⊎ (is_awaited site e f ≡ true)
+abbrev pub IsBehind : List ClaimGroup → Event → Event → Type 0
+IsBehind groups e f = ((f.robot.0 ≡ e.robot.0) × (f.no.0 < e.no.0)) ⊎ (is_awaited groups e f ≡ true)
 
 -- e is an event of the plan that isn't done, and all that it comes behind is done
 pub record IsReady (behind : Event → Event → Type 0) (plan done : List Event) (e : Event) : Type 0 where
@@ -77,7 +78,7 @@ IsOrder behind plan done (e ∷ es) = IsReady behind plan done e × IsOrder behi
 
 -- an order in which unfinished events may be reported; it need not have all of them
 abbrev pub IsAllowed : Fleet → List Event → Type 0
-IsAllowed m order = IsOrder (IsBehind m.site) m.plan m.finished order
+IsAllowed m order = IsOrder (IsBehind m.site.groups) m.plan m.finished order
 
 -- whatever is reported in an allowed order is a legal replay
 abbrev pub IsSafe : Fleet → Type 0
@@ -119,7 +120,7 @@ pub record IsBlocker (m : Fleet) (r : ℕ) (route : List CellNo) (c : ClaimNo) (
   pub starts : slice_get m.starts q ≡ Some start
   pub claim : ClaimNo
   pub holds : has_claim (footprint_of m.site (end_of m q)) claim ≡ true
-  pub conflict : in_conflict m.site c claim ≡ true
+  pub conflict : in_conflict m.site.groups c claim ≡ true
 
 -- pairs of an unfinished event of the plan and an event of the route that is to come behind it
 abbrev pub Insertion : Type 0
@@ -134,7 +135,7 @@ pub record IsInsertion (m : Fleet) (events : List Event) (pairs : Insertion) : T
 -- f is an earlier event of e's robot; or e is an event of the plan that stands behind f; or the insertion pairs f with e
 abbrev pub IsBehindBy : Fleet → Insertion → Event → Event → Type 0
 IsBehindBy m pairs e f =
-    ((f.robot.0 ≡ e.robot.0) × (f.no.0 < e.no.0)) ⊎ (((e.no.0 < m.next) × (is_awaited m.site e f ≡ true)) ⊎ In (f, e) pairs)
+    ((f.robot.0 ≡ e.robot.0) × (f.no.0 < e.no.0)) ⊎ (((e.no.0 < m.next) × (is_awaited m.site.groups e f ≡ true)) ⊎ In (f, e) pairs)
 
 -- an order that the insertion allows
 abbrev pub IsAllowedBy : Fleet → List Event → Insertion → List Event → Type 0
@@ -151,7 +152,7 @@ rests_of site (Some a) ks = rest_points site a (moved_to ks)
 
 -- none of these events is finished, and no other robot's event stands behind one of them
 abbrev pub is_removable : Fleet → List Event → Bool
-is_removable m tail = list_all (λ f. not (is_done m.finished f) && not (list_any (λ e. is_awaited m.site e f) m.plan)) tail
+is_removable m tail = list_all (λ f. not (is_done m.finished f) && not (list_any (λ e. is_awaited m.site.groups e f) m.plan)) tail
 
 -- the longest list of robot r's events from a rest point on that may be removed
 abbrev pub removable_tail : Fleet → ℕ → List Event
@@ -164,7 +165,7 @@ pub record IsRemovableTail (m : Fleet) (r : ℕ) (tail : List Event) : Type 0 wh
   pub splits : own r m.plan ≡ front ++ tail
   pub rests : AreSteps m.site (slice_get m.starts r) (map (λ e. e.kind) front)
   pub undone : (f : Event) → In f tail → is_done m.finished f ≡ false
-  pub unawaited : (e f : Event) → In e m.plan → In f tail → is_awaited m.site e f ≡ false
+  pub unawaited : (e f : Event) → In e m.plan → In f tail → is_awaited m.site.groups e f ≡ false
 
 -- the plan without these events
 abbrev pub withdrawn : Fleet → List Event → Fleet

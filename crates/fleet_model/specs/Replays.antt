@@ -54,7 +54,7 @@ after_event e spots q = if e.robot.0 == q then after_kind e.kind (spots q) else 
 
 -- no other robot holds what conflicts with an acquired claim
 abbrev pub IsFree : Site → Spots → ℕ → Kind → Type 0
-IsFree site spots r (Acquire c) = (q : ℕ) (d : ClaimNo) → q ≢ r → (spots q).holds d ≡ true → in_conflict site c d ≡ true → ⊥
+IsFree site spots r (Acquire c) = (q : ℕ) (d : ClaimNo) → q ≢ r → (spots q).holds d ≡ true → in_conflict site.groups c d ≡ true → ⊥
 IsFree site spots r (Move a b) = Unit {0}
 IsFree site spots r (Release c) = Unit {0}
 

@@ -1,7 +1,7 @@
 -- Sites, walks over them, and the events of a walk.
-use Rattle.std.specs.Prelude.{◌≡◌, ℕ, ◌+◌, ◌<◌, ◌≤◌, Bool, true, false, not, ◌&&◌, ◌||◌, ◌==◌, if◌then◌else◌, List, [], ◌∷◌, ◌++◌, map, length, find, Option, Some, None, slice_get, slice_index_or}
+use Rattle.std.specs.Prelude.{◌≡◌, ℕ, ◌+◌, ◌<◌, ◌≤◌, Bool, true, false, not, ◌&&◌, ◌||◌, ◌==◌, List, [], ◌∷◌, ◌++◌, map, length, find, Option, Some, None, slice_get, slice_index_or}
 use Rattle.std.specs.List.{filter, list_any}
-use Rattle.std.specs.Option.{is_some, option_map, unwrap_or}
+use Rattle.std.specs.Option.{is_some, option_map}
 use Rattle.fleet_base.specs.declared.numbers.CellNo.{CellNo}
 use Rattle.fleet_base.specs.declared.numbers.ClaimGroup.{ClaimGroup}
 use Rattle.fleet_base.specs.declared.numbers.ClaimNo.{ClaimNo}
@@ -41,8 +41,8 @@ exclude (Some g) None same = false
 exclude (Some g) (Some h) same = (g.group == h.group) && (not same || g.alone)
 
 -- two robots must not hold these claims at once: they have one group, and they are two claims, or one that is alone
-unfoldable pub in_conflict : Site → ClaimNo → ClaimNo → Bool
-in_conflict site c d = exclude (slice_get site.groups c.0) (slice_get site.groups d.0) (c.0 == d.0)
+unfoldable pub in_conflict : List ClaimGroup → ClaimNo → ClaimNo → Bool
+in_conflict groups c d = exclude (slice_get groups c.0) (slice_get groups d.0) (c.0 == d.0)
 
 -- the claim is one of these
 abbrev pub has_claim : List ClaimNo → ClaimNo → Bool
@@ -55,7 +55,7 @@ IsDistinct (c ∷ cs) = (has_claim cs c ≡ false) × IsDistinct cs
 
 -- the claim conflicts with one of the cell's
 abbrev pub is_kept_from : Site → ClaimNo → CellNo → Bool
-is_kept_from site c a = list_any (λ d. in_conflict site c d) (footprint_of site a)
+is_kept_from site c a = list_any (λ d. in_conflict site.groups c d) (footprint_of site a)
 
 -- there are at most 1,024 cells, footprints are short and ascend, and each link joins two of the cells and costs something
 pub record IsSite (site : Site) : Type 0 where

@@ -1,5 +1,5 @@
 -- What a journal keeps at each of its places.
-use Rattle.std.specs.Prelude.{◌≡◌, ◌≢◌, ◌↔◌, ℕ, Bool, true, false, ◌⊎◌, List, [], ◌∷◌, ◌++◌}
+use Rattle.std.specs.Prelude.{◌≡◌, ◌≢◌, ◌↔◌, ℕ, true, false, ◌⊎◌, List, [], ◌∷◌, ◌++◌}
 use Rattle.fleet_base.specs.declared.entries.Act.{Act}
 use Rattle.fleet_base.specs.declared.entries.Act.TheVariants.{Merged, Deferred, Retried, Canceled, Withdrawn, Replanned}
 use Rattle.fleet_base.specs.declared.entries.Entry.{Entry}
@@ -38,6 +38,11 @@ abbrev pub IsDeferral : Act → Type 0
 IsDeferral (Deferred route cycle) = Unit {0}
 IsDeferral _ = ⊥
 
+-- the act is a withdrawal
+abbrev pub IsWithdrawal : Act → Type 0
+IsWithdrawal (Withdrawn removed end) = Unit {0}
+IsWithdrawal _ = ⊥
+
 -- no member cancels, withdraws or replans
 abbrev pub IsTrueTo : List ℕ → List Entry → Type 0
 IsTrueTo members journal = (entry : Entry) → In entry journal → In entry.robot.0 members → IsChange entry.act → ⊥
@@ -53,7 +58,7 @@ CanInsert s r route = (pairs : Insertion) × IsInsertion s.fleet (route_events s
 -- at this state: every allowed order is safe, and where an event is unfinished, some event is ready
 pub record IsSoundState (s : State) : Type 0 where
   pub safe : IsSafe s.fleet
-  pub ready : (e : Event) → In e s.fleet.plan → is_done s.fleet.finished e ≡ false → (f : Event) × IsReady (IsBehind s.fleet.site) s.fleet.plan s.fleet.finished f
+  pub ready : (e : Event) → In e s.fleet.plan → is_done s.fleet.finished e ≡ false → (f : Event) × IsReady (IsBehind s.fleet.site.groups) s.fleet.plan s.fleet.finished f
 
 -- the entry at this state: a merge removes no allowed order, and a proposal is deferred exactly where no insertion of it is safe; the deferral names a cycle exactly where there is one through its robot
 pub record IsSoundEntry (s : State) (entry : Entry) : Type 0 where

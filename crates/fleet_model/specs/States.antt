@@ -1,16 +1,15 @@
 -- The states of a fleet: what is planned, pending and owed, and who is deferred on whom.
-use Rattle.std.specs.Prelude.{◌≡◌, ℕ, ◌+◌, ◌-◌, Bool, not, ◌&&◌, ◌==◌, nat_lt, nat_le, List, [], ◌∷◌, ◌++◌, map, length, position, count_by, find, Option, Some, None, Result, Ok, Err, slice_get, slice_set, slice_index_or}
+use Rattle.std.specs.Prelude.{◌≡◌, ℕ, ◌+◌, Bool, not, ◌&&◌, ◌==◌, nat_lt, List, [], map, length, Option, Some, None, slice_get, slice_index_or}
 use Rattle.std.specs.List.{filter, list_any}
-use Rattle.std.specs.Option.{is_some, is_none, option_map, option_and_then, unwrap_or, option_to_list}
+use Rattle.std.specs.Option.{is_some, option_map, unwrap_or}
 use Rattle.fleet_base.specs.Lists.{robots_of}
 use Rattle.fleet_base.specs.declared.answers.Block.{Block}
 use Rattle.fleet_base.specs.declared.numbers.CellNo.{CellNo}
 use Rattle.fleet_base.specs.declared.numbers.ClaimNo.{ClaimNo}
-use Rattle.fleet_model.specs.Lists.{when, first_some, numbers_below}
-use Rattle.fleet_model.specs.Sites.{Site, cell_count, is_linked, needs, steps}
+use Rattle.fleet_model.specs.Sites.{Site, needs}
 use Rattle.fleet_model.specs.Plans.{Fleet, IsBlocker, unfinished}
 use Rattle.fleet_model.specs.Cycles.{cycle_through}
-use Rattle.fleet_model.specs.Deferral.{ends, is_kept_by, least_blocker, is_shut_to}
+use Rattle.fleet_model.specs.Deferral.{ends, is_kept_by, least_blocker}
 
 -- the fleet's plan, the route that each robot has pending, the cap, and the number of accepted calls
 pub record State : Type 0 where

@@ -25,7 +25,7 @@ pub fn orders_are_safe()
 
 /// Where an event of a good plan is unfinished, some event is ready.
 pub fn some_ready()
-    ensures ready { (m : Fleet) (e : Event) → IsGoodPlan m → In e m.plan → is_done m.finished e ≡ false → (f : Event) × IsReady (IsBehind m.site) m.plan m.finished f }
+    ensures ready { (m : Fleet) (e : Event) → IsGoodPlan m → In e m.plan → is_done m.finished e ≡ false → (f : Event) × IsReady (IsBehind m.site.groups) m.plan m.finished f }
 {}
 
 /// A merge removes no allowed order.
@@ -60,5 +60,5 @@ pub fn withdrawal_keeps_good()
 
 /// No claim of the footprint at one robot's end conflicts with one at another's.
 pub fn ends_do_not_conflict()
-    ensures apart { (m : Fleet) (r q : ℕ) (a b : CellNo) (c d : ClaimNo) → IsSite m.site → IsGoodPlan m → r ≢ q → slice_get m.starts r ≡ Some a → slice_get m.starts q ≡ Some b → in_conflict m.site c d ≡ true → has_claim (footprint_of m.site (end_of m r)) c ≡ true → has_claim (footprint_of m.site (end_of m q)) d ≡ true → ⊥ }
+    ensures apart { (m : Fleet) (r q : ℕ) (a b : CellNo) (c d : ClaimNo) → IsSite m.site → IsGoodPlan m → r ≢ q → slice_get m.starts r ≡ Some a → slice_get m.starts q ≡ Some b → in_conflict m.site.groups c d ≡ true → has_claim (footprint_of m.site (end_of m r)) c ≡ true → has_claim (footprint_of m.site (end_of m q)) d ≡ true → ⊥ }
 {}

@@ -1,5 +1,5 @@
 use Rattle.fleet_model.proofs.Insert.{blocked_unsafe}
-use Rattle.fleet_model.proofs.Least.{unblocked_safe}
+use Rattle.fleet_model.proofs.LeastMerge.{unblocked_safe}
 use Rattle.fleet_model.proofs.plan_laws.deferral_is_exact.Goals as goal
 
 pub returns : goal.returns

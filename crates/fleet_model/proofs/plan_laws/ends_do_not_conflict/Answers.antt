@@ -1,4 +1,4 @@
-use Rattle.fleet_model.proofs.Further.{ends_apart}
+use Rattle.fleet_model.proofs.Ends.{ends_apart}
 use Rattle.fleet_model.proofs.plan_laws.ends_do_not_conflict.Goals as goal
 
 pub returns : goal.returns

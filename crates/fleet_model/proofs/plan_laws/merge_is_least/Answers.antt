@@ -1,4 +1,4 @@
-use Rattle.fleet_model.proofs.Least.{least}
+use Rattle.fleet_model.proofs.LeastMerge.{least}
 use Rattle.fleet_model.proofs.plan_laws.merge_is_least.Goals as goal
 
 pub returns : goal.returns

@@ -1,4 +1,4 @@
-use Rattle.fleet_model.proofs.Grown.{merge_good}
+use Rattle.fleet_model.proofs.GoodMerge.{merge_good}
 use Rattle.fleet_model.proofs.plan_laws.merge_keeps_good.Goals as goal
 
 pub returns : goal.returns

@@ -7,4 +7,4 @@ pub invariant_of-self : goal.invariant_of-self
 invariant_of-self c =
     let used = simp length-map at (ap length c.self.view_is) in
     let room : c.self.inside.len < 64 = omega (arith, c.self.invariant.used) in
-    IsKept-push c.self.inside c.args.robot.0 c.self.invariant c.self.told room c.requires.known
+    IsKept-push c.self.inside _ c.self.invariant c.self.told room (omega arith)

@@ -1,0 +1,5 @@
+pub mod Scanning
+pub mod Changes
+pub mod Cuts
+pub mod Whole
+pub mod Uses

@@ -1,0 +1,8 @@
+//! The unfinished events of a plan, what each of them waits for, and which are ready.
+#![tactic(auto)]
+
+pub mod graph;
+pub mod laws;
+mod scans;
+#[cfg(test)]
+mod tests;

@@ -1,0 +1,1 @@
+//! A small plan of three robots, through each call.
