@@ -1,0 +1,4 @@
+pub mod Steps
+pub mod Adding
+pub mod Finding
+pub mod Keeping

@@ -1,0 +1,9 @@
+//! The names of a site's things and of a fleet's robots.
+#![tactic(auto)]
+
+pub mod names;
+mod places;
+pub mod samples;
+#[cfg(test)]
+mod tests;
+pub mod thing;

@@ -1,0 +1,10 @@
+//! Lines, words and numbers of a text, the texts of numbers, and the codes of bad lines.
+#![tactic(auto)]
+
+pub mod fault;
+pub mod line;
+pub mod number;
+pub mod samples;
+#[cfg(test)]
+mod tests;
+pub mod word;
