@@ -1,0 +1,12 @@
+//! The shortest cycle of a relation between robots, and a check of one.
+#![tactic(auto)]
+
+mod checker;
+mod robot_sets;
+mod rows;
+mod search;
+#[cfg(test)]
+mod tests;
+
+pub use checker::check_cycle;
+pub use search::cycle_through;

@@ -1,0 +1,4 @@
+pub mod KeptCounts
+pub mod Renewals
+pub mod Relations
+pub mod FleetStates

@@ -1,0 +1,18 @@
+use Rattle.std.proofs.Common.{◌≡◌, ◌∙◌, ◌<◌, sym, ap, subst, length, set, None, arith, length-set}
+use Rattle.fleet_base.specs.EdgeSets.{leads}
+use Rattle.deferral.specs.Backlogs.{Backlog}
+use Rattle.deferral.specs.Kept.{shown}
+use Rattle.deferral.proofs.Relations.{pending_changed}
+use Rattle.deferral.proofs.deferrals.Deferrals.take.Goals as goal
+
+pub invariant_of-self : goal.invariant_of-self
+invariant_of-self c =
+    let known : c.args.robot.0 < length c.self.inside.pending.items = subst (λ (b : Backlog). c.args.robot.0 < length b.pending) (sym c.self.view_is) c.requires.known in
+    let kept : length (set c.self.inside.pending.items c.args.robot.0 c.take-taken.new.self) ≡ length c.self.inside.pending.items = length-set c.self.inside.pending.items c.args.robot.0 c.take-taken.new.self in
+    record {
+      claims = c.self.invariant.claims;
+      robots = (let h = c.self.invariant.robots in omega (arith, kept));
+      ends = c.self.invariant.ends ∙ sym kept;
+      edges = pending_changed (shown c.self.inside) (leads c.self.inside.edges) (leads c.renew_from.new.edges) c.args.robot.0 c.take-taken.new.self c.deref.result.now c.deref-2.result.now None c.deref.ensures.value c.deref-2.ensures.value (sym c.take-taken.ensures.after)
+          known c.self.invariant.edges c.renew_from.ensures;
+    }

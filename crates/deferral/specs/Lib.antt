@@ -1,0 +1,4 @@
+pub mod Backlogs
+pub mod Codes
+pub mod Kept
+pub mod Laws
