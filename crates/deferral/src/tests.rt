@@ -61,35 +61,36 @@ fn hand_back(deferrals: &mut Deferrals) -> Option<Path>
     deferrals.take(RobotNo(0))
 }
 
-// The claim alone.
-fn just(alloc: Global, claim: u32) -> Claims {
-    let mut claims = Claims::new(alloc);
-    claims.put(ClaimNo(claim));
-    claims
-}
-
 #[test]
 fn counts_follow_ends(rt: HostRuntime) -> Result<(), Fail> {
     let alloc = rt.alloc();
     let mut deferrals = two_robots(alloc)?;
-    let cells = [CellNo(0), CellNo(1), CellNo(2)];
-    wait(&mut deferrals, Path::copy_of(alloc, &cells)?);
+    wait(&mut deferrals, Path::copy_of(alloc, &[CellNo(0)])?);
     let nothing = Claims::new(alloc);
     let mut both = Claims::new(alloc);
     both.put(ClaimNo(1));
     both.put(ClaimNo(2));
     tell(&mut deferrals, &nothing, &both);
     assert_eq!(rt; deferrals.count(RobotNo(0), RobotNo(1)), 2);
-    assert_eq!(rt; deferrals.count(RobotNo(1), RobotNo(0)), 0);
-    let second = just(alloc, 2);
+    assert!(rt; deferrals.edges().has(RobotNo(0), RobotNo(1)));
+    let mut second = Claims::new(alloc);
+    second.put(ClaimNo(2));
     tell(&mut deferrals, &both, &second);
     assert_eq!(rt; deferrals.count(RobotNo(0), RobotNo(1)), 1);
-    assert!(rt; deferrals.edges().has(RobotNo(0), RobotNo(1)));
-    assert!(rt; !deferrals.edges().has(RobotNo(1), RobotNo(0)));
-    let third = just(alloc, 3);
+    let mut third = Claims::new(alloc);
+    third.put(ClaimNo(3));
     tell(&mut deferrals, &second, &third);
     assert_eq!(rt; deferrals.count(RobotNo(0), RobotNo(1)), 0);
     assert!(rt; !deferrals.edges().has(RobotNo(0), RobotNo(1)));
+    Ok(())
+}
+
+#[test]
+fn hands_route_back(rt: HostRuntime) -> Result<(), Fail> {
+    let alloc = rt.alloc();
+    let mut deferrals = two_robots(alloc)?;
+    let cells = [CellNo(0), CellNo(1), CellNo(2)];
+    wait(&mut deferrals, Path::copy_of(alloc, &cells)?);
     assert!(rt; deferrals.pending(RobotNo(0)).is_some());
     let route = hand_back(&mut deferrals).ok_or("none")?;
     assert_eq!(rt; route.cells(), cells.as_slice());
