@@ -1,6 +1,6 @@
 -- A backlog that shows a state has the state's deferrals.
-use Rattle.std.proofs.Common.{◌≡◌, ℕ, zero, suc, ◌+◌, ◌<◌, ◌≤◌, Bool, true, false, cond, not, ◌&&◌, ◌==◌, eqb, ◌⊎◌, inl, inr, refl, sym, ap, ◌∙◌, subst, List, [], ◌∷◌, length, Option, Some, None, unwrap_or, arith, eq-eqb}
-use Rattle.std.proofs.lemmas.Bool.{both_ways, and_parts, and_from, eqb-true, ltb-true, lt-ltb, cases_lt, not-true, not_from_false}
+use Rattle.std.proofs.Common.{◌≡◌, ℕ, zero, suc, ◌+◌, ◌<◌, ◌≤◌, Bool, true, false, cond, not, ◌&&◌, ◌==◌, inl, inr, refl, sym, ap, ◌∙◌, subst, List, [], ◌∷◌, length, Option, Some, None, unwrap_or, arith, eq-eqb}
+use Rattle.std.proofs.lemmas.Bool.{both_ways, and_parts, and_from, eqb-true, lt-ltb, cases_lt}
 use Rattle.std.proofs.lemmas.Option.{slice_get_past}
 use Rattle.std.specs.Prelude.{nat_lt, slice_get}
 use Rattle.std.specs.List.{filter, list_any, range_with_len}
@@ -10,7 +10,7 @@ use Rattle.fleet_base.specs.declared.numbers.CellNo.{CellNo}
 use Rattle.fleet_base.specs.declared.numbers.ClaimGroup.{ClaimGroup}
 use Rattle.fleet_base.specs.declared.numbers.ClaimNo.{ClaimNo}
 use Rattle.fleet_model.specs.Lists.{In, here, there, numbers_below}
-use Rattle.fleet_model.specs.Sites.{Site, in_conflict, exclude, footprint_of, is_kept_from, steps, needs}
+use Rattle.fleet_model.specs.Sites.{Site, in_conflict, exclude, footprint_of, steps, needs}
 use Rattle.fleet_model.specs.Plans.{IsBlocker}
 use Rattle.fleet_model.specs.Cycles.{are_distinct}
 use Rattle.fleet_model.specs.Deferral.{ends, is_kept_by}
@@ -23,7 +23,7 @@ use Rattle.fleet_model.proofs.Lists.{In-filter, In_unfilter, In_below}
 use Rattle.fleet_model.proofs.Steps.{In_acquired}
 use Rattle.fleet_model.proofs.Tests.{any_In, In_any}
 use Rattle.deferral.specs.declared.pending.Pending.{Pending}
-use Rattle.deferral.specs.Backlogs.{Backlog, pending_of, end_claims, is_needed, is_kept, needed_claims, kept_claims, is_kept_apart, blocker_count, is_deferred_on}
+use Rattle.deferral.specs.Backlogs.{Backlog, pending_of, end_claims, is_needed, is_kept, needed_claims, kept_claims, blocker_count, is_deferred_on}
 use Rattle.deferral.specs.Laws.{Shows, AreBlockers}
 use Rattle.deferral.proofs.Relations.{deferred_by}
 

@@ -1,12 +1,12 @@
 -- The relation after a change of one robot's pending route or end.
-use Rattle.std.proofs.Common.{◌≡◌, ◌≢◌, ℕ, zero, suc, ◌+◌, ◌<◌, ◌≤◌, Bool, true, false, cond, not, ◌&&◌, ◌==◌, eqb, ltb, ◌⊎◌, inl, inr, refl, sym, ap, ◌∙◌, subst, List, [], ◌∷◌, length, get_or, set, replicate, Option, Some, None, arith, eq-eqb, get_or-set_same, get_or-set_other}
+use Rattle.std.proofs.Common.{◌≡◌, ℕ, ◌<◌, ◌≤◌, Bool, true, false, cond, not, ◌&&◌, ◌==◌, inl, inr, refl, sym, ap, ◌∙◌, List, [], length, get_or, set, replicate, Option, None, arith, eq-eqb, get_or-set_same, get_or-set_other}
 use Rattle.std.proofs.lemmas.Bool.{lt-ltb, le-ltb, ne_eqb, cases_eq, cases_lt, and_right}
 use Rattle.std.proofs.lemmas.List.{get_or_past, get_or-replicate, length-replicate}
 use Rattle.std.specs.Prelude.{nat_lt}
 use Rattle.fleet_base.specs.declared.numbers.ClaimGroup.{ClaimGroup}
 use Rattle.fleet_base.specs.declared.numbers.ClaimNo.{ClaimNo}
 use Rattle.deferral.specs.declared.pending.Pending.{Pending}
-use Rattle.deferral.specs.Backlogs.{Backlog, kept_claims, is_kept_apart, pending_of, end_claims, blocker_count, is_deferred_on}
+use Rattle.deferral.specs.Backlogs.{Backlog, kept_claims, is_kept_apart, pending_of, end_claims, is_deferred_on}
 use Rattle.deferral.proofs.KeptCounts.{kept_claims-free}
 
 none_less : nat_lt 0 0 ≡ false

@@ -1,4 +1,4 @@
-use Rattle.std.proofs.Common.{◌≡◌, ◌∙◌, ap, get_or, None, arith}
+use Rattle.std.proofs.Common.{◌≡◌, ◌∙◌, ap, get_or, None}
 use Rattle.std.proofs.lemmas.List.{get_or_default}
 use Rattle.fleet_base.specs.EdgeSets.{leads}
 use Rattle.deferral.specs.Backlogs.{is_kept_apart}

@@ -1,4 +1,4 @@
-use Rattle.std.proofs.Common.{◌≡◌, ◌∙◌, sym, ap, length, [], None, Option, List, refl, replicate, get_or, arith}
+use Rattle.std.proofs.Common.{◌≡◌, ◌∙◌, sym, ap, length, [], None, Option, List, refl, get_or, arith}
 use Rattle.std.proofs.lemmas.List.{length-replicate}
 use Rattle.fleet_base.specs.EdgeSets.{leads}
 use Rattle.deferral.specs.declared.pending.Pending.{Pending}

@@ -1,4 +1,4 @@
-use Rattle.std.proofs.Common.{◌≡◌, ◌∙◌, ◌<◌, sym, ap, subst, length, set, Some, Option, arith, length-set, get_or-set_same}
+use Rattle.std.proofs.Common.{◌≡◌, ◌∙◌, ◌<◌, sym, subst, length, set, Some, Option, arith, length-set, get_or-set_same}
 use Rattle.fleet_base.specs.EdgeSets.{leads}
 use Rattle.deferral.specs.declared.pending.Pending.{Pending}
 use Rattle.deferral.specs.Backlogs.{Backlog}

@@ -1,4 +1,4 @@
-use Rattle.std.proofs.Common.{◌≡◌, ◌∙◌, ◌<◌, sym, ap, subst, length, set, None, arith, length-set}
+use Rattle.std.proofs.Common.{◌≡◌, ◌∙◌, ◌<◌, sym, subst, length, set, None, arith, length-set}
 use Rattle.fleet_base.specs.EdgeSets.{leads}
 use Rattle.deferral.specs.Backlogs.{Backlog}
 use Rattle.deferral.specs.Kept.{shown}
