@@ -1,0 +1,13 @@
+//! The site of a fleet: its cells, crossings, areas and links, and the claims on them.
+#![tactic(auto)]
+
+pub mod builder;
+mod cells;
+mod crossing;
+mod link_list;
+pub mod names;
+mod places;
+pub mod refused;
+pub mod site;
+#[cfg(test)]
+mod tests;
