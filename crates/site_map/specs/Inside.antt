@@ -1,6 +1,7 @@
 -- How a site is kept.
-use Rattle.std.specs.Prelude.{◌≡◌, ℕ, ◌+◌, ◌<◌, ◌≤◌, Bool, not, ◌&&◌, ◌==◌, nat_lt, if◌then◌else◌, List, [], ◌∷◌, map, length, take, Option, Some, None, position, slice_index, slice_index_or, All}
+use Rattle.std.specs.Prelude.{◌≡◌, ℕ, ◌+◌, ◌<◌, ◌≤◌, Bool, not, ◌&&◌, ◌==◌, nat_lt, if◌then◌else◌, List, [], ◌∷◌, ◌++◌, map, length, take, Some, None, position, slice_index, slice_index_or, All}
 use Rattle.std.specs.List.{list_any}
+use Rattle.std.specs.Option.{unwrap_or}
 use Rattle.std.specs.FinSet as set
 use Rattle.std.specs.Ordering.{nat_cmp}
 use Rattle.fleet_base.specs.declared.limits.TheConstants.{MAX_CELLS, MAX_COST, MAX_LINKS, MAX_CROSSINGS, MAX_AREAS}
@@ -12,7 +13,7 @@ use Rattle.site_map.specs.declared.places.Places.{Places}
 use Rattle.site_map.specs.declared.places.Places.TheVariants.{Free, One, Two}
 use Rattle.site_map.specs.Cells.{has_cell, CellsRise, LinksRise}
 use Rattle.site_map.specs.Crossings.{BuiltCrossing, claim_count_of, completed, crossing_claims, in_flow}
-use Rattle.site_map.specs.Built.{BuiltSite, link_total}
+use Rattle.site_map.specs.Built.{BuiltSite, crossing_at, link_total}
 
 -- the places as a list
 abbrev pub places_list : Places → List Place
@@ -30,6 +31,18 @@ places_from k [] c = []
 places_from k (x ∷ xs) c =
     let later = places_from (k + 1) xs c in
     if has_cell x.cells c then place_in k x c ∷ later else later
+
+-- the places of a cell with one in a new crossing, where the cell is in it
+abbrev pub entered : Bool → ℕ → List Place → List Place
+entered is_in k places = if is_in then places ++ record { crossing = k; line = None } ∷ [] else places
+
+-- the place with a flow line, where it is in crossing k
+abbrev pub marked_place : ℕ → ℕ → Place → Place
+marked_place k line place = if place.crossing == k then record { crossing = k; line = Some line } else place
+
+-- the places of a cell with a flow line in crossing k, where the cell is in the line
+abbrev pub marked : Bool → ℕ → ℕ → List Place → List Place
+marked is_in k line places = if is_in then map (marked_place k line) places else places
 
 -- how a crossing is kept: it has a cell, the free cells are those in no line, and the rest is there where one of them is
 pub record IsCrossing (cells : List CellNo) (lines : List (List CellNo)) (free : set.FinSet nat_cmp) (has_rest : Bool) : Type 0 where
@@ -77,3 +90,7 @@ pub record IsKept (links : List (List Link)) (link_count : ℕ) (places : List P
   pub placed : length places ≡ length links
   pub found : (c : CellNo) → c.0 < length links → places_list (slice_index_or places c.0 Free) ≡ places_from 0 crossings c
   pub numbered : AreNumbered (map completed crossings) firsts owners
+
+-- the claim of a cell with this place: behind the cells and the claims of the crossings before, by its flow
+abbrev pub claim_at : BuiltSite → Place → ℕ
+claim_at site place = site.cells + crossing_claims (take place.crossing (map completed site.crossings)) + unwrap_or place.line (length (crossing_at site place.crossing).flows)

@@ -8,7 +8,7 @@ ghost use Rattle.site_map.specs.Cells.{are_known, cells_below, has_cell, has_rep
 
 use bit_set::BitSet;
 use fleet_base::numbers::CellNo;
-use fleet_base::path::Path;
+use fleet_base::path::{NoMemory, Path};
 use std::alloc::{AllocError, Global};
 
 // Whether each is one of the first cells, so many.
@@ -47,4 +47,17 @@ pub(crate) fn ascending(alloc: Global, members: &BitSet<16>, count: u32) -> Resu
         }
     }
     Ok(Path::from_vec(cells))
+}
+
+// Equal paths.
+pub(crate) fn copy_paths(alloc: Global, paths: &[Path]) -> Result<Vec<Path>, NoMemory>
+    ensures { IfOk result (λ v. v.items ≡ paths.now) }
+{
+    let mut copies = Vec::with_capacity(alloc, paths.len())?;
+    for path in paths {
+        if copies.push(Path::copy_of(alloc, path.cells())?).is_err() {
+            return Err(NoMemory);
+        }
+    }
+    Ok(copies)
 }

@@ -1,15 +1,16 @@
 //! A crossing while a site is built.
 
 ghost use Rattle.std.specs.Prelude.{◌≡◌, ◌<◌, ◌≤◌, ◌&&◌, true, not, [], List, length, All, IfOk, OnOk, OnErr};
-ghost use Rattle.std.specs.List.{list_any};
+ghost use Rattle.std.specs.List.{list_all, list_any};
 ghost use Rattle.std.specs.FinSet as set;
 ghost use Rattle.fleet_base.specs.declared.numbers.CellNo.{CellNo};
 ghost use Rattle.site_map.specs.Cells.{has_cell};
 ghost use Rattle.site_map.specs.Crossings.{claim_count_of, completed, in_flow, with_line};
 
+use crate::cells::copy_paths;
 use bit_set::BitSet;
 use fleet_base::numbers::CellNo;
-use fleet_base::path::Path;
+use fleet_base::path::{NoMemory, Path};
 use std::alloc::{AllocError, Global};
 use std::marker::Model;
 
@@ -122,6 +123,56 @@ impl Crossing {
         self.has_rest = rest;
         Ok(())
     }
+
+    // An equal crossing.
+    pub(crate) fn copy(&self, alloc: Global) -> Result<Crossing, NoMemory>
+        ensures { IfOk result (λ x. x ≡ self.now) }
+    {
+        Ok(Crossing {
+            cells: Path::copy_of(alloc, self.cells.cells())?,
+            lines: copy_paths(alloc, &self.lines)?,
+            free: common(self.cells.cells(), &self.free),
+            has_rest: self.has_rest,
+        })
+    }
+}
+
+// The cells that are in the set, as a set.
+fn common(cells: &[CellNo], members: &BitSet<16>) -> BitSet<16>
+    requires { All (λ c. c.0 < 1024) cells.now }
+    ensures { (c : CellNo) → set.contains result c.0 ≡ (has_cell cells.now c && set.contains members.now c.0) }
+{
+    let mut found = BitSet::new();
+    for cell in cells {
+        if members.contains(cell.0) {
+            found.insert(cell.0);
+        }
+    }
+    found
+}
+
+// Whether each cell is in the crossing, and in none of its lines.
+pub(crate) fn are_free(crossing: &Crossing, cells: &[CellNo]) -> bool
+    requires { All (λ c. c.0 < 1024) cells.now }
+    ensures { result ≡ list_all (λ c. has_cell crossing.now.cells c && not (in_flow crossing.now.flows c)) cells.now }
+{
+    cells.iter().all(|cell| crossing.is_free(*cell))
+}
+
+// Equal crossings.
+pub(crate) fn copy_crossings(
+    alloc: Global,
+    crossings: &[Crossing],
+) -> Result<Vec<Crossing>, NoMemory>
+    ensures { IfOk result (λ v. v.items ≡ crossings.now) }
+{
+    let mut copies = Vec::with_capacity(alloc, crossings.len())?;
+    for crossing in crossings {
+        if copies.push(crossing.copy(alloc)?).is_err() {
+            return Err(NoMemory);
+        }
+    }
+    Ok(copies)
 }
 
 // Whether one of the free cells isn't in the line.

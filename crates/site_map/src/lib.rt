@@ -6,6 +6,7 @@ mod cells;
 mod crossing;
 mod link_list;
 pub mod names;
+mod numbering;
 mod places;
 pub mod refused;
 pub mod site;

@@ -57,6 +57,13 @@ impl LinkList {
         None
     }
 
+    // Whether there is a link to the cell.
+    pub(crate) fn has(&self, to: CellNo) -> bool
+        ensures { result ≡ list_any (λ l. l.to.0 == to.0) self.now }
+    {
+        self.links.iter().any(|link| link.to.0 == to.0)
+    }
+
     // Puts a link to a new cell into its place.
     pub(crate) fn insert(&mut self, link: Link) -> Result<(), AllocError>
         requires { list_any (λ l. l.to.0 == link.to.0) self.old ≡ false }
@@ -81,4 +88,15 @@ impl LinkList {
 // How many links from the front on lead to cells before this one.
 fn place_among(links: &[Link], to: CellNo) -> usize {
     links.iter().take_while(|link| link.to.0 < to.0).count()
+}
+
+// Equal lists.
+pub(crate) fn copy_links(alloc: Global, rows: &[LinkList]) -> Result<Vec<LinkList>, AllocError>
+    ensures { IfOk result (λ v. v.items ≡ rows.now) }
+{
+    let mut copies = Vec::with_capacity(alloc, rows.len())?;
+    for row in rows {
+        copies.push(row.copy(alloc)?)?;
+    }
+    Ok(copies)
 }

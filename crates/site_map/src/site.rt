@@ -11,7 +11,7 @@ ghost use Rattle.site_map.specs.Claims.{claim_total, group_at, names_of, site_of
 
 use crate::builder::SiteBuilder;
 use crate::names::ClaimName;
-use crate::places::{Place, Places};
+use crate::places::Places;
 use fleet_base::claims::Claims;
 use fleet_base::numbers::{CellNo, ClaimGroup, ClaimNo, Link};
 use fleet_base::path::NoMemory;
@@ -90,6 +90,14 @@ impl Site {
         let built = &self.built;
         let mut claims = Claims::new(built.alloc);
         claims.put(ClaimNo(cell.0));
+        match built.places[cell.0 as usize] {
+            Places::Free => {}
+            Places::One(place) => claims.put(built.claim_at(place)),
+            Places::Two(place, other) => {
+                claims.put(built.claim_at(place));
+                claims.put(built.claim_at(other));
+            }
+        }
         claims
     }
 
@@ -206,6 +214,8 @@ impl Site {
     pub fn copy(&self) -> Result<Site, NoMemory>
         ensures { IfOk result (λ site. site ≡ self.now) }
     {
-        Err(NoMemory)
+        Ok(Site {
+            built: self.built.copy()?,
+        })
     }
 }
