@@ -1,7 +1,6 @@
 -- Crossings and their flows.
-use Rattle.std.specs.Prelude.{ℕ, ◌+◌, max, Bool, not, List, [], ◌∷◌, ◌++◌, length, position}
-use Rattle.std.specs.List.{filter, list_any}
-use Rattle.std.specs.Option.{unwrap_or}
+use Rattle.std.specs.Prelude.{ℕ, ◌+◌, max, Bool, not, List, [], ◌∷◌, ◌++◌, length}
+use Rattle.std.specs.List.{filter, list_any, position_or_len}
 use Rattle.fleet_base.specs.declared.numbers.CellNo.{CellNo}
 use Rattle.site_map.specs.Cells.{has_cell}
 
@@ -41,6 +40,6 @@ abbrev pub crossing_claims : List BuiltCrossing → ℕ
 crossing_claims [] = 0
 crossing_claims (x ∷ xs) = claim_count_of x + crossing_claims xs
 
--- the number of the cell's flow in the crossing, 0 in a crossing without flows
+-- the number of the cell's flow: how many flows stand before the first that has the cell
 abbrev pub flow_of : BuiltCrossing → CellNo → ℕ
-flow_of crossing c = unwrap_or (position (λ flow. has_cell flow c) crossing.flows) 0
+flow_of crossing c = position_or_len (λ flow. has_cell flow c) crossing.flows

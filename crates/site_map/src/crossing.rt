@@ -69,10 +69,10 @@ impl Crossing {
     pub(crate) fn flow_count(&self) -> usize
         ensures { result ≡ length (completed self.now).flows }
     {
-        if self.has_rest && !self.lines.is_empty() {
-            self.lines.len() + 1
+        if self.lines.is_empty() {
+            0
         } else {
-            self.lines.len()
+            self.claim_count()
         }
     }
 
@@ -106,20 +106,17 @@ impl Crossing {
         }
     }
 
-    // Adds a line of free cells.
+    // Adds a line.
     pub(crate) fn add_line(&mut self, line: Path, members: &BitSet<16>) -> Result<(), AllocError>
         requires members { (c : CellNo) → set.contains members.now c.0 ≡ has_cell line c }
-        requires free { All (λ c. (has_cell self.old.cells c && not (in_flow self.old.flows c)) ≡ true) line }
+        requires known { All (λ c. c.0 < 1024) line }
         ensures ok { OnOk result (self.new ≡ with_line self.old line) }
         ensures err { OnErr result (self.new ≡ self.old) }
     {
         let rest = leaves_rest(self.cells.cells(), &self.free, members);
-        self.lines.push(line)?;
-        for cell in self.cells.cells() {
-            if members.contains(cell.0) {
-                self.free.remove(cell.0);
-            }
-        }
+        self.lines.reserve(1)?;
+        remove_all(&mut self.free, line.cells());
+        self.lines.push(line).unwrap();
         self.has_rest = rest;
         Ok(())
     }
@@ -149,6 +146,16 @@ fn common(cells: &[CellNo], members: &BitSet<16>) -> BitSet<16>
         }
     }
     found
+}
+
+// Takes the cells out of the set.
+fn remove_all(free: &mut BitSet<16>, cells: &[CellNo])
+    requires { All (λ c. c.0 < 1024) cells.now }
+    ensures { (c : CellNo) → set.contains free.new c.0 ≡ (set.contains free.old c.0 && not (has_cell cells.now c)) }
+{
+    for cell in cells {
+        free.remove(cell.0);
+    }
 }
 
 // Whether each cell is in the crossing, and in none of its lines.

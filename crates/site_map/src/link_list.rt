@@ -1,6 +1,6 @@
 //! The links from one cell.
 
-ghost use Rattle.std.specs.Prelude.{◌≡◌, ◌==◌, ◌<◌, ◌≤◌, [], false, find, IfOk, OnOk, OnErr};
+ghost use Rattle.std.specs.Prelude.{◌≡◌, ◌==◌, ◌<◌, ◌≤◌, [], false, find, length, nat_lt, take_while, IfOk, OnOk, OnErr};
 ghost use Rattle.std.specs.List.{list_any};
 ghost use Rattle.std.specs.Option.{option_map};
 ghost use Rattle.site_map.specs.Cells.{with_one_more, LinksRise};
@@ -49,12 +49,10 @@ impl LinkList {
     pub(crate) fn cost(&self, to: CellNo) -> Option<u32>
         ensures { result ≡ option_map (λ l. l.cost) (find (λ l. l.to.0 == to.0) self.now) }
     {
-        for link in self.links.as_slice() {
-            if link.to.0 == to.0 {
-                return Some(link.cost);
-            }
-        }
-        None
+        self.links
+            .iter()
+            .find(|link| link.to.0 == to.0)
+            .map(|link| link.cost)
     }
 
     // Whether there is a link to the cell.
@@ -86,7 +84,10 @@ impl LinkList {
 }
 
 // How many links from the front on lead to cells before this one.
-fn place_among(links: &[Link], to: CellNo) -> usize {
+fn place_among(links: &[Link], to: CellNo) -> usize
+    ensures within { result ≤ length links.now }
+    ensures counted { result ≡ length (take_while (λ l. nat_lt l.to.0 to.0) links.now) }
+{
     links.iter().take_while(|link| link.to.0 < to.0).count()
 }
 

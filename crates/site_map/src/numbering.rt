@@ -1,6 +1,6 @@
 //! Numbering the claims of crossings.
 
-ghost use Rattle.std.specs.Prelude.{◌≡◌, ◌≤◌, length, map};
+ghost use Rattle.std.specs.Prelude.{◌≡◌, ℕ, ◌+◌, ◌<◌, ◌≤◌, length, map, slice_index};
 ghost use Rattle.site_map.specs.Crossings.{completed, crossing_claims};
 ghost use Rattle.site_map.specs.Inside.{AreNumbered};
 
@@ -17,7 +17,18 @@ pub(crate) fn number_claims(crossings: &[Crossing], firsts: &mut [u32], owners: 
     for (number, crossing) in crossings.iter().enumerate() {
         let count = crossing.claim_count();
         firsts[number] = next as u32;
-        owners[next..next + count].fill(number as u32);
+        fill(owners, next, count, number as u32);
         next += count;
+    }
+}
+
+// Writes the number to so many places, from one on.
+fn fill(owners: &mut [u32], from: usize, count: usize, number: u32)
+    requires { from + count ≤ length owners.old }
+    ensures filled { (k : ℕ) → from ≤ k → k < from + count → slice_index owners.new k ≡ number }
+    ensures others { (k : ℕ) → k < from → slice_index owners.new k ≡ slice_index owners.old k }
+{
+    for place in from..from + count {
+        owners[place] = number;
     }
 }

@@ -1,6 +1,6 @@
 //! Where a cell stands in crossings.
 
-ghost use Rattle.std.specs.Prelude.{◌≡◌, ℕ, ◌<◌, ◌≤◌, ◌++◌, nat_le, if◌then◌else◌, length, slice_index_or, All};
+ghost use Rattle.std.specs.Prelude.{◌≡◌, ℕ, ◌<◌, ◌≤◌, true, nat_le, length, slice_index_or, All};
 ghost use Rattle.std.specs.List.{list_any};
 ghost use Rattle.std.specs.FinSet as set;
 ghost use Rattle.site_map.specs.Inside.{entered, marked, marked_place, places_list};
@@ -39,9 +39,9 @@ pub(crate) fn enter(places: &mut [Places], members: &BitSet<16>, crossing: u32)
     requires room { (c : ℕ) → c < length places.old → set.contains members.now c ≡ true → length (places_list (slice_index_or places.old c Places.Free)) < 2 }
     ensures { (c : ℕ) → c < length places.old → places_list (slice_index_or places.new c Places.Free) ≡ entered (set.contains members.now c) crossing (places_list (slice_index_or places.old c Places.Free)) }
 {
-    for (number, place) in places.iter_mut().enumerate() {
+    for number in 0..places.len() {
         if members.contains(number as u32) {
-            *place = place.entered(crossing);
+            places[number] = places[number].entered(crossing);
         }
     }
 }
@@ -51,9 +51,9 @@ pub(crate) fn mark(places: &mut [Places], members: &BitSet<16>, crossing: u32, l
     requires { length places.old ≤ 1024 }
     ensures { (c : ℕ) → c < length places.old → places_list (slice_index_or places.new c Places.Free) ≡ marked (set.contains members.now c) crossing line (places_list (slice_index_or places.old c Places.Free)) }
 {
-    for (number, place) in places.iter_mut().enumerate() {
+    for number in 0..places.len() {
         if members.contains(number as u32) {
-            *place = place.marked(crossing, line);
+            places[number] = places[number].marked(crossing, line);
         }
     }
 }

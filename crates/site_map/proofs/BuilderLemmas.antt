@@ -1,0 +1,138 @@
+-- What each call of the builder leaves is kept as a site is.
+use Rattle.std.proofs.Common.{◌≡◌, ℕ, zero, suc, ◌+◌, ◌<◌, ◌≤◌, Bool, true, false, cond, not, ◌&&◌, ◌||◌, eqb, ◌⊎◌, inl, inr, List, [], ◌∷◌, ◌++◌, length, map, get_or, set, refl, sym, ap, subst, ◌∙◌, arith, get_or-append}
+use Rattle.std.specs.List.{list_any, All}
+use Rattle.std.specs.FinSet as set
+use Rattle.std.specs.Ordering.{nat_cmp}
+use Rattle.std.proofs.lemmas.Bool.{cases_Bool, cases_lt, ne_eqb, and_parts}
+use Rattle.std.proofs.lemmas.List.{map-append, length-map, length_push, length-set, get_or-map}
+use Rattle.std.proofs.lemmas.List.Folds.{list_any_none}
+use Rattle.std.proofs.lemmas.List.Elements.{All-push, All-nil, All-set, All-weaker, All-get_or}
+use Rattle.fleet_base.specs.declared.numbers.CellNo.{CellNo}
+use Rattle.fleet_base.specs.declared.numbers.Link.{Link}
+use Rattle.fleet_base.specs.declared.limits.TheConstants.{MAX_COST}
+use Rattle.site_map.specs.declared.places.Places.{Places}
+use Rattle.site_map.specs.declared.places.Places.TheVariants.{Free}
+use Rattle.site_map.specs.Cells.{are_known, has_cell, in_order, with_one_more, LinksRise}
+use Rattle.site_map.specs.Crossings.{BuiltCrossing, claim_count_of, completed, crossing_claims, in_flow, with_line}
+use Rattle.site_map.specs.Built.{link_total, no_crossing}
+use Rattle.site_map.specs.Inside.{AreCells, AreLinks, AreNumbered, entered, IsKept, marked, places_from, places_list}
+use Rattle.site_map.proofs.CellLemmas.{AreCells-in_order, has_cell-in_order}
+use Rattle.site_map.proofs.ClaimLemmas.{crossing_claims-append, crossing_claims-set, length-crossings}
+use Rattle.site_map.proofs.LinkLemmas.{LinksRise-with_one_more, All-with_one_more, length-with_one_more}
+use Rattle.site_map.proofs.PlaceLemmas.{places_none, places_push, places_same, places_marked}
+
+AreCells-grown : (n : ℕ) (cells : List CellNo) → AreCells n cells → AreCells (n + 1) cells
+AreCells-grown n cells are = record {
+  rise = are.rise;
+  known = All-weaker (λ c. c.0 < n) (λ c. c.0 < n + 1) (λ c h. omega arith) cells are.known;
+  some = are.some;
+}
+
+AreLinks-grown : (n : ℕ) (links : List Link) → AreLinks n links → AreLinks (n + 1) links
+AreLinks-grown n links are = record {
+  rise = are.rise;
+  known = All-weaker (λ l. l.to.0 < n) (λ l. l.to.0 < n + 1) (λ l h. omega arith) links are.known;
+  costs = are.costs;
+}
+
+AreLinks-none : (n : ℕ) → AreLinks n []
+AreLinks-none n = record { rise = tt; known = All-nil (λ l. l.to.0 < n); costs = All-nil (λ l. (1 ≤ l.cost) × (l.cost ≤ MAX_COST)) }
+
+missing : (n : ℕ) (cells : List CellNo) (c : CellNo) → AreCells n cells → n ≤ c.0 → has_cell cells c ≡ false
+missing n cells c are past =
+    list_any_none (λ d. eqb d.0 c.0) cells
+    (All-weaker (λ d. d.0 < n) (λ d. eqb d.0 c.0 ≡ false) (λ d h. ne_eqb d.0 c.0 (omega arith)) cells are.known)
+
+link_total_push : (rows : List (List Link)) → link_total (rows ++ [] ∷ []) ≡ link_total rows
+link_total_push [] = refl
+link_total_push (row ∷ rows) = ap (λ n. length row + n) (link_total_push rows)
+
+link_total-set : (rows : List (List Link)) (i : ℕ) (row : List Link) → i < length rows → link_total (set rows i row) + length (get_or rows i []) ≡ link_total rows + length row
+link_total-set [] i row within = absurd (omega arith)
+link_total-set (r ∷ rs) zero row within = omega arith
+link_total-set (r ∷ rs) (suc i) row within = omega (arith, link_total-set rs i row (omega arith))
+
+-- the tables of a site as one value
+module _ (links : List (List Link)) (count : ℕ) (places : List Places) (crossings : List BuiltCrossing) (areas : List (List CellNo)) (firsts owners : List ℕ) where
+  found_push : IsKept links count places crossings areas firsts owners → (c : CellNo) → c.0 < length links + 1 → places_list (get_or (places ++ Free ∷ []) c.0 Free) ≡ places_from 0 crossings c
+  found_push kept c below =
+      elim (cases_lt c.0 (length links)) [
+        | inl old ↦ ap places_list (get_or-append places (Free ∷ []) Free c.0 (omega (arith, kept.placed))) ∙ kept.found c old
+        | inr new ↦
+            let last : c.0 ≡ length places = omega (arith, kept.placed) in
+            ap (λ k. places_list (get_or (places ++ Free ∷ []) k Free)) last
+            ∙ ap places_list (get_or_last places Free)
+            ∙ sym (places_none 0 crossings c (All-weaker (λ x. AreCells (length links) x.cells) (λ x. has_cell x.cells c ≡ false) (λ x are. missing (length links) x.cells c are new) crossings kept.crossed))
+      ]
+    where
+      get_or_last : (ps : List Places) (p : Places) → get_or (ps ++ p ∷ []) (length ps) p ≡ p
+      get_or_last [] p = refl
+      get_or_last (q ∷ qs) p = get_or_last qs p
+
+  -- a cell is added
+  pub kept_cell : (links' : List (List Link)) (places' : List Places) → IsKept links count places crossings areas firsts owners → length links < 1024 → links' ≡ links ++ [] ∷ [] → places' ≡ places ++ Free ∷ [] → IsKept links' count places' crossings areas firsts owners
+  kept_cell links' places' kept room more_links more_places =
+      let n : ℕ = length links in
+      let long : length (links ++ [] ∷ []) ≡ n + 1 = length_push links [] in
+      subst (λ ls. IsKept ls count places' crossings areas firsts owners) (sym more_links)
+      (subst (λ ps. IsKept (links ++ [] ∷ []) count ps crossings areas firsts owners) (sym more_places)
+      (record {
+        few_cells = omega (arith, long);
+        few_links = kept.few_links;
+        few_crossings = kept.few_crossings;
+        few_areas = kept.few_areas;
+        few_claims = kept.few_claims;
+        counted = kept.counted ∙ sym (link_total_push links);
+        linked = subst (λ m. All (AreLinks m) (links ++ [] ∷ [])) (sym long) (All-push (AreLinks (n + 1)) links [] (All-weaker (AreLinks n) (AreLinks (n + 1)) (AreLinks-grown n) links kept.linked) (AreLinks-none (n + 1)));
+        crossed = subst (λ m. All (λ x. AreCells m x.cells) crossings) (sym long) (All-weaker (λ x. AreCells n x.cells) (λ x. AreCells (n + 1) x.cells) (λ x are. AreCells-grown n x.cells are) crossings kept.crossed);
+        gathered = subst (λ m. All (AreCells m) areas) (sym long) (All-weaker (AreCells n) (AreCells (n + 1)) (AreCells-grown n) areas kept.gathered);
+        placed = omega (arith, long, length_push places Free, kept.placed);
+        found = λ c below. found_push kept c (omega (arith, long));
+        numbered = kept.numbered;
+      }))
+
+  -- an area is added
+  pub kept_area : (areas' : List (List CellNo)) (cells : List CellNo) → IsKept links count places crossings areas firsts owners → length areas < 256 → AreCells (length links) cells → areas' ≡ areas ++ cells ∷ [] → IsKept links count places crossings areas' firsts owners
+  kept_area areas' cells kept room are more =
+      subst (λ as'. IsKept links count places crossings as' firsts owners) (sym more)
+      (record {
+        few_cells = kept.few_cells;
+        few_links = kept.few_links;
+        few_crossings = kept.few_crossings;
+        few_areas = omega (arith, length_push areas cells);
+        few_claims = kept.few_claims;
+        counted = kept.counted;
+        linked = kept.linked;
+        crossed = kept.crossed;
+        gathered = All-push (AreCells (length links)) areas cells kept.gathered are;
+        placed = kept.placed;
+        found = kept.found;
+        numbered = kept.numbered;
+      })
+
+  -- a link is added
+  pub kept_link : (from : ℕ) (link : Link) (row : List Link) → IsKept links count places crossings areas firsts owners → count < 8192 → from < length links → link.to.0 < length links → 1 ≤ link.cost → link.cost ≤ MAX_COST → list_any (λ l. eqb l.to.0 link.to.0) (get_or links from []) ≡ false → row ≡ with_one_more (get_or links from []) link → IsKept (set links from row) (count + 1) places crossings areas firsts owners
+  kept_link from link row kept room from_known to_known costs cheap new more =
+      let old : List Link = get_or links from [] in
+      let long : length (set links from (with_one_more old link)) ≡ length links = length-set links from (with_one_more old link) in
+      let are : AreLinks (length links) old = All-get_or (AreLinks (length links)) links from [] from_known kept.linked in
+      let still : AreLinks (length links) (with_one_more old link) = record {
+        rise = LinksRise-with_one_more 0 old link are.rise (omega arith) new;
+        known = All-with_one_more (λ l. l.to.0 < length links) old link are.known to_known;
+        costs = All-with_one_more (λ l. (1 ≤ l.cost) × (l.cost ≤ MAX_COST)) old link are.costs (costs, cheap);
+      } in
+      subst (λ r. IsKept (set links from r) (count + 1) places crossings areas firsts owners) (sym more)
+      (record {
+        few_cells = omega (arith, long, kept.few_cells);
+        few_links = omega arith;
+        few_crossings = kept.few_crossings;
+        few_areas = kept.few_areas;
+        few_claims = kept.few_claims;
+        counted = omega (arith, kept.counted, link_total-set links from (with_one_more old link) from_known, length-with_one_more old link);
+        linked = subst (λ m. All (AreLinks m) (set links from (with_one_more old link))) (sym long) (All-set (AreLinks (length links)) links from (with_one_more old link) still kept.linked);
+        crossed = subst (λ m. All (λ x. AreCells m x.cells) crossings) (sym long) kept.crossed;
+        gathered = subst (λ m. All (AreCells m) areas) (sym long) kept.gathered;
+        placed = kept.placed ∙ sym long;
+        found = λ c below. kept.found c (omega (arith, long));
+        numbered = kept.numbered;
+      })
