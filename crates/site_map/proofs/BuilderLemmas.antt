@@ -1,9 +1,10 @@
 -- What each call of the builder leaves is kept as a site is.
-use Rattle.std.proofs.Common.{◌≡◌, ℕ, zero, suc, ◌+◌, ◌<◌, ◌≤◌, Bool, true, false, cond, not, ◌&&◌, ◌||◌, eqb, ◌⊎◌, inl, inr, List, [], ◌∷◌, ◌++◌, length, map, get_or, set, refl, sym, ap, subst, ◌∙◌, arith, get_or-append}
+use Rattle.std.proofs.Common.{◌≡◌, ℕ, zero, suc, ◌+◌, ◌<◌, ◌≤◌, Bool, true, false, cond, not, ◌&&◌, ◌||◌, eqb, leb, ltb, ◌⊎◌, inl, inr, List, [], ◌∷◌, ◌++◌, length, map, get_or, set, refl, sym, ap, subst, ◌∙◌, arith}
+use Rattle.std.proofs.Math.ListN.{get_or-append}
 use Rattle.std.specs.List.{list_any, All}
 use Rattle.std.specs.FinSet as set
 use Rattle.std.specs.Ordering.{nat_cmp}
-use Rattle.std.proofs.lemmas.Bool.{cases_Bool, cases_lt, ne_eqb, and_parts}
+use Rattle.std.proofs.lemmas.Bool.{cases_Bool, cases_lt, ne_eqb, and_parts, not-true, or_from, or_right, lt-leb, le-leb, lt-ltb, le-ltb}
 use Rattle.std.proofs.lemmas.List.{map-append, length-map, length_push, length-set, get_or-map}
 use Rattle.std.proofs.lemmas.List.Folds.{list_any_none}
 use Rattle.std.proofs.lemmas.List.Elements.{All-push, All-nil, All-set, All-weaker, All-get_or}
@@ -12,14 +13,14 @@ use Rattle.fleet_base.specs.declared.numbers.Link.{Link}
 use Rattle.fleet_base.specs.declared.limits.TheConstants.{MAX_COST}
 use Rattle.site_map.specs.declared.places.Places.{Places}
 use Rattle.site_map.specs.declared.places.Places.TheVariants.{Free}
-use Rattle.site_map.specs.Cells.{are_known, has_cell, in_order, with_one_more, LinksRise}
+use Rattle.site_map.specs.Cells.{has_cell, with_one_more}
 use Rattle.site_map.specs.Crossings.{BuiltCrossing, claim_count_of, completed, crossing_claims, in_flow, with_line}
-use Rattle.site_map.specs.Built.{link_total, no_crossing}
+use Rattle.site_map.specs.Built.{crossings_with, link_total, no_crossing}
 use Rattle.site_map.specs.Inside.{AreCells, AreLinks, AreNumbered, entered, IsKept, marked, places_from, places_list}
-use Rattle.site_map.proofs.CellLemmas.{AreCells-in_order, has_cell-in_order}
+use Rattle.site_map.proofs.CellLemmas.{list_any_agree_in}
 use Rattle.site_map.proofs.ClaimLemmas.{crossing_claims-append, crossing_claims-set, length-crossings}
 use Rattle.site_map.proofs.LinkLemmas.{LinksRise-with_one_more, All-with_one_more, length-with_one_more}
-use Rattle.site_map.proofs.PlaceLemmas.{places_none, places_push, places_same, places_marked}
+use Rattle.site_map.proofs.PlaceLemmas.{length-places, places_none, places_push, places_same, places_marked}
 
 AreCells-grown : (n : ℕ) (cells : List CellNo) → AreCells n cells → AreCells (n + 1) cells
 AreCells-grown n cells are = record {
@@ -136,3 +137,110 @@ module _ (links : List (List Link)) (count : ℕ) (places : List Places) (crossi
         found = λ c below. kept.found c (omega (arith, long));
         numbered = kept.numbered;
       })
+
+  -- a crossing is added
+  pub kept_crossing : (places' : List Places) (crossings' : List BuiltCrossing) (firsts' owners' : List ℕ) (cells : List CellNo) (members : set.FinSet nat_cmp) → IsKept links count places crossings areas firsts owners → length owners < 256 → AreCells (length links) cells → ((c : CellNo) → set.contains members c.0 ≡ has_cell cells c) → length places' ≡ length places → ((c : ℕ) → c < length places → places_list (get_or places' c Free) ≡ entered (set.contains members c) (length crossings) (places_list (get_or places c Free))) → crossings' ≡ crossings ++ record { cells = cells; flows = [] } ∷ [] → AreNumbered (map completed crossings') firsts' owners' → IsKept links count places' crossings' areas firsts' owners'
+  kept_crossing places' crossings' firsts' owners' cells members kept room are is_member same_long enters more numbered =
+      let total : crossing_claims (map completed (crossings ++ record { cells = cells; flows = [] } ∷ [])) ≡ length owners + 1 =
+      ap crossing_claims (map-append completed crossings (record { cells = cells; flows = [] } ∷ []))
+      ∙ crossing_claims-append (map completed crossings) (record { cells = cells; flows = [] } ∷ [])
+      ∙ omega (arith, kept.numbered.owners_are_all)
+      in
+      subst (λ xs. AreNumbered (map completed xs) firsts' owners' → IsKept links count places' xs areas firsts' owners') (sym more)
+      (λ all. record {
+        few_cells = kept.few_cells;
+        few_links = kept.few_links;
+        few_crossings = omega (arith, length_push crossings (record { cells = cells; flows = [] }), length-crossings (map completed crossings), length-map crossings completed, kept.numbered.owners_are_all);
+        few_areas = kept.few_areas;
+        few_claims = omega (arith, total);
+        counted = kept.counted;
+        linked = kept.linked;
+        crossed = All-push (λ x. AreCells (length links) x.cells) crossings (record { cells = cells; flows = [] }) kept.crossed are;
+        gathered = kept.gathered;
+        placed = same_long ∙ kept.placed;
+        found = λ c below.
+            enters c.0 (omega (arith, kept.placed))
+            ∙ ap (λ b. entered b (length crossings) (places_list (get_or places c.0 Free))) (is_member c)
+            ∙ ap (entered (has_cell cells c) (length crossings)) (kept.found c below)
+            ∙ ap (λ k. entered (has_cell cells c) k (places_from 0 crossings c)) (let e : length crossings ≡ 0 + length crossings = omega arith in e)
+            ∙ sym (places_push 0 crossings cells c);
+        numbered = all;
+      }) numbered
+
+  map-set : (xs : List BuiltCrossing) (k : ℕ) (y : BuiltCrossing) → map completed (set xs k y) ≡ set (map completed xs) k (completed y)
+  map-set [] k y = refl
+  map-set (x ∷ xs) zero y = refl
+  map-set (x ∷ xs) (suc k) y = ap (λ zs. completed x ∷ zs) (map-set xs k y)
+
+  -- how many claims there are once a crossing has one more line
+  pub claims_with_flow : (k : ℕ) (y : BuiltCrossing) → k < length crossings → crossing_claims (map completed (set crossings k y)) + claim_count_of (completed (get_or crossings k no_crossing)) ≡ crossing_claims (map completed crossings) + claim_count_of (completed y)
+  claims_with_flow k y within =
+      ap (λ xs. crossing_claims xs + claim_count_of (completed (get_or crossings k no_crossing))) (map-set crossings k y)
+      ∙ ap (λ x. crossing_claims (set (map completed crossings) k (completed y)) + claim_count_of x) (sym (get_or-map completed crossings k no_crossing no_crossing within))
+      ∙ crossing_claims-set (map completed crossings) k (completed y) (omega (arith, length-map crossings completed))
+
+  -- a flow line is added
+  pub kept_flow : (places' : List Places) (crossings' : List BuiltCrossing) (firsts' owners' : List ℕ) (k : ℕ) (line : List CellNo) (members : set.FinSet nat_cmp) → IsKept links count places crossings areas firsts owners → k < length crossings → length owners' ≤ 256 → ((c : CellNo) → set.contains members c.0 ≡ has_cell line c) → ((c : CellNo) → has_cell line c ≡ true → (has_cell (get_or crossings k no_crossing).cells c && not (in_flow (get_or crossings k no_crossing).flows c)) ≡ true) → length places' ≡ length places → ((c : ℕ) → c < length places → places_list (get_or places' c Free) ≡ marked (set.contains members c) k (length (get_or crossings k no_crossing).flows) (places_list (get_or places c Free))) → crossings' ≡ set crossings k (with_line (get_or crossings k no_crossing) line) → AreNumbered (map completed crossings') firsts' owners' → IsKept links count places' crossings' areas firsts' owners'
+  kept_flow places' crossings' firsts' owners' k line members kept within few is_member free same_long marks more numbered =
+      let x : BuiltCrossing = get_or crossings k no_crossing in
+      let long : length (set crossings k (with_line x line)) ≡ length crossings = length-set crossings k (with_line x line) in
+      subst (λ xs. AreNumbered (map completed xs) firsts' owners' → IsKept links count places' xs areas firsts' owners') (sym more)
+      (λ all. record {
+        few_cells = kept.few_cells;
+        few_links = kept.few_links;
+        few_crossings = omega (arith, long, kept.few_crossings);
+        few_areas = kept.few_areas;
+        few_claims = omega (arith, all.owners_are_all);
+        counted = kept.counted;
+        linked = kept.linked;
+        crossed = All-set (λ y. AreCells (length links) y.cells) crossings k (with_line x line) (All-get_or (λ y. AreCells (length links) y.cells) crossings k no_crossing within kept.crossed) kept.crossed;
+        gathered = kept.gathered;
+        placed = same_long ∙ kept.placed;
+        found = λ c below.
+            marks c.0 (omega (arith, kept.placed))
+            ∙ ap (λ b. marked b k (length x.flows) (places_list (get_or places c.0 Free))) (is_member c)
+            ∙ ap (marked (has_cell line c) k (length x.flows)) (kept.found c below)
+            ∙ marked_flow k line c within (free c);
+        numbered = all;
+      }) numbered
+    where
+      marked_flow : (k : ℕ) (line : List CellNo) (c : CellNo) → k < length crossings → (has_cell line c ≡ true → (has_cell (get_or crossings k no_crossing).cells c && not (in_flow (get_or crossings k no_crossing).flows c)) ≡ true) → marked (has_cell line c) k (length (get_or crossings k no_crossing).flows) (places_from 0 crossings c) ≡ places_from 0 (set crossings k (with_line (get_or crossings k no_crossing) line)) c
+      marked_flow k line c within free =
+          elim (cases_Bool (has_cell line c)) [
+            | inl has ↦
+                let parts = and_parts (has_cell (get_or crossings k no_crossing).cells c) (not (in_flow (get_or crossings k no_crossing).flows c)) (free has) in
+                ap (λ b. marked b k (length (get_or crossings k no_crossing).flows) (places_from 0 crossings c)) has
+                ∙ ap (λ j. marked true j (length (get_or crossings k no_crossing).flows) (places_from 0 crossings c)) (let e : k ≡ 0 + k = omega arith in e)
+                ∙ sym (places_marked 0 crossings k line c within has parts.0 (not-true (in_flow (get_or crossings k no_crossing).flows c) parts.1))
+            | inr out ↦
+                ap (λ b. marked b k (length (get_or crossings k no_crossing).flows) (places_from 0 crossings c)) out
+                ∙ sym (places_same 0 crossings k line c within out)
+          ]
+
+  -- a cell's crossings are counted by its places
+  pub crowded : (c : CellNo) → IsKept links count places crossings areas firsts owners → c.0 < length links → length (places_list (get_or places c.0 Free)) ≡ crossings_with crossings c
+  crowded c kept known = ap length (kept.found c known) ∙ length-places 0 crossings c
+
+  pub any_crowded : (cells : List CellNo) → IsKept links count places crossings areas firsts owners → All (λ c. c.0 < length links) cells → list_any (λ c. leb 2 (length (places_list (get_or places c.0 Free)))) cells ≡ list_any (λ c. leb 2 (crossings_with crossings c)) cells
+  any_crowded cells kept known =
+      list_any_agree_in (λ c. leb 2 (length (places_list (get_or places c.0 Free)))) (λ c. leb 2 (crossings_with crossings c)) cells
+      (All-weaker (λ c. c.0 < length links) (λ c. leb 2 (length (places_list (get_or places c.0 Free))) ≡ leb 2 (crossings_with crossings c)) (λ c h. ap (leb 2) (crowded c kept h)) cells known)
+
+  -- a crossing is full by its claims alone, since each crossing has one
+  pub crossing_full : (cells : List CellNo) → IsKept links count places crossings areas firsts owners → (leb 256 (length crossings) || ltb 256 (crossing_claims (map completed (crossings ++ record { cells = cells; flows = [] } ∷ [])))) ≡ leb 256 (length owners)
+  crossing_full cells kept =
+      let total : crossing_claims (map completed (crossings ++ record { cells = cells; flows = [] } ∷ [])) ≡ length owners + 1 =
+      ap crossing_claims (map-append completed crossings (record { cells = cells; flows = [] } ∷ []))
+      ∙ crossing_claims-append (map completed crossings) (record { cells = cells; flows = [] } ∷ [])
+      ∙ omega (arith, kept.numbered.owners_are_all)
+      in
+      let few : length crossings ≤ length owners = omega (arith, length-crossings (map completed crossings), length-map crossings completed, kept.numbered.owners_are_all) in
+      ap (λ n. leb 256 (length crossings) || ltb 256 n) total
+      ∙ elim (cases_lt (length owners) 256) [
+        | inl below ↦
+            or_from (leb 256 (length crossings)) (ltb 256 (length owners + 1)) (lt-leb 256 (length crossings) (omega arith)) (le-ltb 256 (length owners + 1) (omega arith))
+            ∙ sym (lt-leb 256 (length owners) below)
+        | inr full ↦
+            or_right (leb 256 (length crossings)) (ltb 256 (length owners + 1)) (lt-ltb 256 (length owners + 1) (omega arith))
+            ∙ sym (le-leb 256 (length owners) full)
+      ]

@@ -8,7 +8,7 @@ use Rattle.std.specs.List.{filter, list_any, list_all, range_with_len, All}
 use Rattle.std.proofs.lemmas.Bool.{true≢false, false≢true, eqb-true, eqb-false, eq-eqb, ne_eqb, ltb-true, lt-ltb, cases_Bool, cases_eq, or_parts, or_from, or_left, or_right, or_cases, and_parts, and_from, and_right}
 use Rattle.std.proofs.lemmas.List.{map-append, take_more, append-nil}
 use Rattle.std.proofs.lemmas.List.Folds.{list_any_at, list_any_more, list_any-append}
-use Rattle.std.proofs.lemmas.List.Elements.{All-nil, All-cons, All-head, All-tail, All-from_get_or, filter-append}
+use Rattle.std.proofs.lemmas.List.Elements.{All-nil, All-cons, All-head, All-tail, All-from_get_or, filter-append, filter_agree}
 use Rattle.fleet_base.specs.declared.numbers.CellNo.{CellNo}
 use Rattle.fleet_model.specs.Lists.{numbers_below}
 use Rattle.site_map.specs.Cells.{are_known, cells_below, has_cell, has_repeat, in_order, CellsRise}
@@ -264,3 +264,24 @@ removed_more free before cells i within so_far c =
     not_and false true true = refl
     not_and false true false = refl
     not_and false false h = refl
+
+-- the cells that are kept by a set of some cells are those cells in order
+pub in_order_kept : (members : set.FinSet nat_cmp) (cells kept : List CellNo) (n count : ℕ) → ((c : CellNo) → set.contains members c.0 ≡ has_cell cells c) → count ≡ n → kept ≡ filter (λ c. set.contains members c.0) (cells_below count) → kept ≡ in_order n cells
+in_order_kept members cells kept n count is_member same is =
+    is ∙ filter_agree (λ (c : CellNo). set.contains members c.0) (has_cell cells) is_member (cells_below count) ∙ ap (λ m. in_order m cells) same
+
+-- what is read at an index within a list doesn't depend on the default
+pub read_at : {A : Type 0} (xs : List A) (i : ℕ) (x d : A) → i < length xs → x ≡ get_or xs i x → x ≡ get_or xs i d
+read_at [] i x d within is = absurd (omega arith)
+read_at (y ∷ ys) zero x d within is = is
+read_at (y ∷ ys) (suc i) x d within is = read_at ys i x d (omega arith) is
+
+-- what all cells of a list pass, a cell in it passes
+pub list_all_has : (p : CellNo → Bool) (cells : List CellNo) (c : CellNo) → list_all p cells ≡ true → has_cell cells c ≡ true → p c ≡ true
+list_all_has p [] c all has = absurd (false≢true has)
+list_all_has p (d ∷ ds) c all has =
+    let parts = and_parts (p d) (list_all p ds) all in
+    elim (or_cases (eqb d.0 c.0) (has_cell ds c) has) [
+      | inl first ↦ let is : d ≡ c = ap (λ k. record { 0 = k }) (eqb-true d.0 c.0 first) in ap p (sym is) ∙ parts.0
+      | inr later ↦ list_all_has p ds c parts.1 later
+    ]
