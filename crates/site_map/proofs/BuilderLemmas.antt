@@ -18,7 +18,7 @@ use Rattle.site_map.specs.Crossings.{BuiltCrossing, claim_count_of, completed, c
 use Rattle.site_map.specs.Built.{crossings_with, link_total, no_crossing}
 use Rattle.site_map.specs.Inside.{AreCells, AreLinks, AreNumbered, entered, IsKept, marked, places_from, places_list}
 use Rattle.site_map.proofs.CellLemmas.{list_any_agree_in}
-use Rattle.site_map.proofs.ClaimLemmas.{crossing_claims-append, crossing_claims-set, length-crossings}
+use Rattle.site_map.proofs.ClaimLemmas.{crossing_claims_front, crossing_claims_more, crossing_claims-append, crossing_claims-set, length-crossings}
 use Rattle.site_map.proofs.LinkLemmas.{LinksRise-with_one_more, All-with_one_more, length-with_one_more}
 use Rattle.site_map.proofs.PlaceLemmas.{length-places, places_none, places_push, places_same, places_marked}
 
@@ -244,3 +244,12 @@ module _ (links : List (List Link)) (count : ℕ) (places : List Places) (crossi
             or_right (leb 256 (length crossings)) (ltb 256 (length owners + 1)) (lt-ltb 256 (length owners + 1) (omega arith))
             ∙ sym (le-leb 256 (length owners) full)
       ]
+
+  -- a crossing has no more claims than all of them
+  pub claim_count_within : (k : ℕ) → k < length crossings → claim_count_of (completed (get_or crossings k no_crossing)) ≤ crossing_claims (map completed crossings)
+  claim_count_within k within =
+      let known : k < length (map completed crossings) = omega (arith, length-map crossings completed) in
+      let more = crossing_claims_more (map completed crossings) k known in
+      let front = crossing_claims_front (map completed crossings) (k + 1) in
+      let same = ap claim_count_of (get_or-map completed crossings k no_crossing no_crossing within) in
+      omega (arith, more, front, same)

@@ -75,7 +75,7 @@ to_cell : ℕ → CellNo
 to_cell k = record { 0 = k }
 
 -- a cell is among the kept ones where it is among all, and is kept
-has_cell-filter : (q : CellNo → Bool) (cells : List CellNo) (c : CellNo) → has_cell (filter q cells) c ≡ (q c && has_cell cells c)
+pub has_cell-filter : (q : CellNo → Bool) (cells : List CellNo) (c : CellNo) → has_cell (filter q cells) c ≡ (q c && has_cell cells c)
 has_cell-filter q [] c = elim (q c) as (λ b. false ≡ (b && false)) [ true ↦ refl | false ↦ refl ]
 has_cell-filter q (d ∷ ds) c =
     elim (cases_eq d.0 c.0) [
@@ -146,7 +146,7 @@ known-filter q bound a (suc n) within =
       | false ↦ later
     ]
 
-some_has : (cells : List CellNo) (c : CellNo) → has_cell cells c ≡ true → 0 < length cells
+pub some_has : (cells : List CellNo) (c : CellNo) → has_cell cells c ≡ true → 0 < length cells
 some_has [] c has = absurd (false≢true has)
 some_has (d ∷ ds) c has = omega arith
 
@@ -285,3 +285,10 @@ list_all_has p (d ∷ ds) c all has =
       | inl first ↦ let is : d ≡ c = ap (λ k. record { 0 = k }) (eqb-true d.0 c.0 first) in ap p (sym is) ∙ parts.0
       | inr later ↦ list_all_has p ds c parts.1 later
     ]
+
+pub All_has : (P : CellNo → Type 0) (cells : List CellNo) (c : CellNo) → All P cells → has_cell cells c ≡ true → P c
+All_has P [] c all has = absurd (false≢true has)
+All_has P (d ∷ ds) c all has = elim (or_cases (eqb d.0 c.0) (has_cell ds c) has) [
+  | inl first ↦ let is : d ≡ c = ap (λ k. record { 0 = k }) (eqb-true d.0 c.0 first) in subst P is (All-head P d ds all)
+  | inr later ↦ All_has P ds c (All-tail P d ds all) later
+]

@@ -31,7 +31,7 @@ length_with_rest : (line : List CellNo) (lines : List (List CellNo)) (rest : Lis
 length_with_rest line lines [] some = absurd (omega arith)
 length_with_rest line lines (c ∷ cs) some = length_push (line ∷ lines) (c ∷ cs)
 
-abbrev is_rest : List (List CellNo) → CellNo → Bool
+abbrev pub is_rest : List (List CellNo) → CellNo → Bool
 is_rest flows c = not (in_flow flows c)
 
 -- a crossing with lines has one more flow than lines where cells are in none of them

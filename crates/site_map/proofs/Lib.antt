@@ -1,4 +1,5 @@
 pub mod BuilderLemmas
+pub mod CauseLemmas
 pub mod CellLemmas
 pub mod ClaimLemmas
 pub mod CrossingLemmas

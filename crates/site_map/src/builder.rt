@@ -1,9 +1,13 @@
 //! Building a site.
 
-ghost use Rattle.std.specs.Prelude.{◌≡◌, ◌<◌, ◌≤◌, length, None, IfOk, IfErr, OnOk, OnErr};
+ghost use Rattle.std.specs.Prelude.{◌≡◌, ◌<◌, ◌≤◌, ◌&&◌, true, not, [], ◌∷◌, ◌++◌, length, map, slice_set, None, Some, All, IfOk, IfErr, OnOk, OnErr};
 ghost use Rattle.std.specs.Option.{ForSome};
-ghost use Rattle.site_map.specs.Inside.{claim_at};
-ghost use Rattle.site_map.specs.Built.{completed_site, crossing_at, no_site, with_area, with_cell, with_crossing, with_flow, with_link};
+ghost use Rattle.std.specs.FinSet as set;
+ghost use Rattle.fleet_base.specs.declared.limits.TheConstants.{MAX_CROSSINGS_OF_CELL};
+ghost use Rattle.site_map.specs.Cells.{has_cell};
+ghost use Rattle.site_map.specs.Crossings.{completed, crossing_claims, in_flow, with_line};
+ghost use Rattle.site_map.specs.Built.{completed_site, crossing_at, crossings_with, no_site, with_area, with_cell, with_crossing, with_flow, with_link};
+ghost use Rattle.site_map.specs.Inside.{claim_at, AreCells};
 ghost use Rattle.site_map.specs.Refusals.{area_cause, cell_cause, crossing_cause, flow_cause, link_cause, IsRefusal};
 
 use crate::cells::{are_known, ascending, copy_paths, set_of};
@@ -13,10 +17,11 @@ use crate::numbering::number_claims;
 use crate::places::{Place, Places, enter, is_crowded, mark};
 use crate::refused::{BuildRefused, MAX_CROSSING_CLAIMS};
 use crate::site::Site;
+use bit_set::BitSet;
 use fleet_base::limits::{MAX_AREAS, MAX_CELLS, MAX_COST, MAX_LINKS};
 use fleet_base::numbers::{CellNo, ClaimNo, Link};
 use fleet_base::path::{NoMemory, Path};
-use std::alloc::Global;
+use std::alloc::{AllocError, Global};
 use std::marker::Model;
 
 /// A site that is being built. Contracts see what was built so far: the number of cells, the
@@ -91,30 +96,10 @@ impl SiteBuilder {
         ensures built { OnOk result (self.new ≡ with_crossing self.old cells.now) }
         ensures kept { OnErr result (self.new ≡ self.old) }
     {
-        let count = self.links.len() as u32;
-        if !are_known(cells, count) {
-            return Err(BuildRefused::UnknownCell);
-        }
-        let Some(members) = set_of(cells) else {
-            return Err(BuildRefused::Repeated);
-        };
-        if self.owners.len() >= MAX_CROSSING_CLAIMS as usize {
-            return Err(BuildRefused::Full);
-        }
-        if is_crowded(&self.places, cells) {
-            return Err(BuildRefused::TooManyCrossings);
-        }
-        let kept = ascending(self.alloc, &members, count)?;
-        self.firsts.reserve(1)?;
-        self.owners.reserve(1)?;
+        let members = self.checked_crossing(cells)?;
+        let kept = ascending(self.alloc, &members, self.links.len() as u32)?;
         let number = self.crossings.len() as u32;
-        self.crossings.reserve(1)?;
-        enter(&mut self.places, &members, number);
-        let made = Crossing::new(self.alloc, kept, members);
-        self.crossings.push(made).unwrap();
-        self.firsts.push(0).unwrap();
-        self.owners.push(0).unwrap();
-        number_claims(&self.crossings, &mut self.firsts, &mut self.owners);
+        self.add_crossing(kept, members)?;
         Ok(number)
     }
 
@@ -179,34 +164,9 @@ impl SiteBuilder {
         ensures built { OnOk result (self.new ≡ with_flow self.old crossing cells.now) }
         ensures kept { OnErr result (self.new ≡ self.old) }
     {
-        let count = self.links.len() as u32;
-        if !are_known(cells, count) {
-            return Err(BuildRefused::UnknownCell);
-        }
-        let place = crossing as usize;
-        if place >= self.crossings.len() {
-            return Err(BuildRefused::UnknownCrossing);
-        }
-        let Some(members) = set_of(cells) else {
-            return Err(BuildRefused::Repeated);
-        };
-        let before = self.crossings[place].claim_count();
-        let after = self.crossings[place].claim_count_with(&members);
-        if self.owners.len() - before + after > MAX_CROSSING_CLAIMS as usize {
-            return Err(BuildRefused::Full);
-        }
-        if !are_free(&self.crossings[place], cells) {
-            return Err(BuildRefused::Foreign);
-        }
-        let line = ascending(self.alloc, &members, count)?;
-        let number = self.crossings[place].line_count() as u32;
-        self.owners.reserve(1)?;
-        self.crossings[place].add_line(line, &members)?;
-        mark(&mut self.places, &members, crossing, number);
-        if before < after {
-            self.owners.push(0).unwrap();
-        }
-        number_claims(&self.crossings, &mut self.firsts, &mut self.owners);
+        let members = self.checked_flow(crossing, cells)?;
+        let line = ascending(self.alloc, &members, self.links.len() as u32)?;
+        self.add_flow(crossing, line, &members)?;
         Ok(())
     }
 
@@ -216,6 +176,103 @@ impl SiteBuilder {
         ensures { result ≡ completed_site self }
     {
         Site { built: self }
+    }
+
+    // The cells of a new crossing as a set, or the first cause to refuse it.
+    fn checked_crossing(&self, cells: &[CellNo]) -> Result<BitSet<16>, BuildRefused>
+        ensures accepted { OnOk result (crossing_cause self.now cells.now ≡ None) }
+        ensures refused { IfErr result (λ e. crossing_cause self.now cells.now ≡ Some e) }
+        ensures members { IfOk result (λ s. (c : CellNo) → set.contains s c.0 ≡ has_cell cells.now c) }
+    {
+        if !are_known(cells, self.links.len() as u32) {
+            return Err(BuildRefused::UnknownCell);
+        }
+        let Some(members) = set_of(cells) else {
+            return Err(BuildRefused::Repeated);
+        };
+        if self.owners.len() >= MAX_CROSSING_CLAIMS as usize {
+            return Err(BuildRefused::Full);
+        }
+        if is_crowded(&self.places, cells) {
+            return Err(BuildRefused::TooManyCrossings);
+        }
+        Ok(members)
+    }
+
+    // Adds a crossing of these cells, which are few enough and have room.
+    fn add_crossing(&mut self, cells: Path, members: BitSet<16>) -> Result<(), AllocError>
+        requires cells { AreCells self.old.cells cells }
+        requires members { (c : CellNo) → set.contains members c.0 ≡ has_cell cells c }
+        requires claims { crossing_claims (map completed self.old.crossings) < MAX_CROSSING_CLAIMS }
+        requires room { All (λ c. crossings_with self.old.crossings c < MAX_CROSSINGS_OF_CELL) cells }
+        ensures built { OnOk result (self.new ≡ record self.old { crossings = self.old.crossings ++ record { cells = cells; flows = [] } ∷ [] }) }
+        ensures kept { OnErr result (self.new ≡ self.old) }
+    {
+        self.firsts.reserve(1)?;
+        self.owners.reserve(1)?;
+        self.crossings.reserve(1)?;
+        enter(&mut self.places, &members, self.crossings.len() as u32);
+        let made = Crossing::new(self.alloc, cells, members);
+        self.crossings.push(made).unwrap();
+        self.firsts.push(0).unwrap();
+        self.owners.push(0).unwrap();
+        number_claims(&self.crossings, &mut self.firsts, &mut self.owners);
+        Ok(())
+    }
+
+    // The cells of a new flow line as a set, or the first cause to refuse it.
+    fn checked_flow(&self, crossing: u32, cells: &[CellNo]) -> Result<BitSet<16>, BuildRefused>
+        ensures accepted { OnOk result (flow_cause self.now crossing cells.now ≡ None) }
+        ensures refused { IfErr result (λ e. flow_cause self.now crossing cells.now ≡ Some e) }
+        ensures members { IfOk result (λ s. (c : CellNo) → set.contains s c.0 ≡ has_cell cells.now c) }
+    {
+        if !are_known(cells, self.links.len() as u32) {
+            return Err(BuildRefused::UnknownCell);
+        }
+        if crossing as usize >= self.crossings.len() {
+            return Err(BuildRefused::UnknownCrossing);
+        }
+        let Some(members) = set_of(cells) else {
+            return Err(BuildRefused::Repeated);
+        };
+        let changed = &self.crossings[crossing as usize];
+        let others = self.owners.len() - changed.claim_count();
+        if others + changed.claim_count_with(&members) > MAX_CROSSING_CLAIMS as usize {
+            return Err(BuildRefused::Full);
+        }
+        if !are_free(changed, cells) {
+            return Err(BuildRefused::Foreign);
+        }
+        Ok(members)
+    }
+
+    // Adds a flow line of free cells to the crossing.
+    fn add_flow(
+        &mut self,
+        crossing: u32,
+        line: Path,
+        members: &BitSet<16>,
+    ) -> Result<(), AllocError>
+        requires known { crossing < length self.old.crossings }
+        requires line { AreCells self.old.cells line }
+        requires members { (c : CellNo) → set.contains members.now c.0 ≡ has_cell line c }
+        requires free { (c : CellNo) → has_cell line c ≡ true → (has_cell (crossing_at self.old crossing).cells c && not (in_flow (crossing_at self.old crossing).flows c)) ≡ true }
+        requires claims { crossing_claims (map completed (slice_set self.old.crossings crossing (with_line (crossing_at self.old crossing) line))) ≤ MAX_CROSSING_CLAIMS }
+        ensures built { OnOk result (self.new ≡ record self.old { crossings = slice_set self.old.crossings crossing (with_line (crossing_at self.old crossing) line) }) }
+        ensures kept { OnErr result (self.new ≡ self.old) }
+    {
+        self.owners.reserve(1)?;
+        let changed = &mut self.crossings[crossing as usize];
+        let number = changed.line_count() as u32;
+        let before = changed.claim_count();
+        let after = changed.claim_count_with(members);
+        changed.add_line(line, members)?;
+        mark(&mut self.places, members, crossing, number);
+        if before < after {
+            self.owners.push(0).unwrap();
+        }
+        number_claims(&self.crossings, &mut self.firsts, &mut self.owners);
+        Ok(())
     }
 
     // The claim of a cell with this place.
