@@ -19,6 +19,7 @@ use Rattle.site_map.specs.Built.{crossings_with, link_total, no_crossing}
 use Rattle.site_map.specs.Inside.{AreCells, AreLinks, AreNumbered, entered, IsKept, marked, places_from, places_list}
 use Rattle.site_map.proofs.CellLemmas.{list_any_agree_in}
 use Rattle.site_map.proofs.ClaimLemmas.{crossing_claims_front, crossing_claims_more, crossing_claims-append, crossing_claims-set, length-crossings}
+use Rattle.site_map.proofs.CrossingLemmas.{claims_step}
 use Rattle.site_map.proofs.LinkLemmas.{LinksRise-with_one_more, All-with_one_more, length-with_one_more}
 use Rattle.site_map.proofs.PlaceLemmas.{length-places, places_none, places_push, places_same, places_marked}
 
@@ -225,6 +226,30 @@ module _ (links : List (List Link)) (count : ℕ) (places : List Places) (crossi
   any_crowded cells kept known =
       list_any_agree_in (λ c. leb 2 (length (places_list (get_or places c.0 Free)))) (λ c. leb 2 (crossings_with crossings c)) cells
       (All-weaker (λ c. c.0 < length links) (λ c. leb 2 (length (places_list (get_or places c.0 Free))) ≡ leb 2 (crossings_with crossings c)) (λ c h. ap (leb 2) (crowded c kept h)) cells known)
+
+  -- the claims with one more crossing
+  pub total_push : (cells : List CellNo) → crossing_claims (map completed (crossings ++ record { cells = cells; flows = [] } ∷ [])) ≡ crossing_claims (map completed crossings) + 1
+  total_push cells =
+      ap crossing_claims (map-append completed crossings (record { cells = cells; flows = [] } ∷ []))
+      ∙ crossing_claims-append (map completed crossings) (record { cells = cells; flows = [] } ∷ [])
+
+  -- the owners are as many as the claims, with those that one more line adds
+  pub total_flow : (k : ℕ) (line : List CellNo) (x : BuiltCrossing) (before after : ℕ) → IsKept links count places crossings areas firsts owners → k < length crossings → x ≡ get_or crossings k no_crossing → before ≡ claim_count_of (completed x) → after ≡ claim_count_of (completed (with_line x line)) → length (cond (ltb before after) (owners ++ 0 ∷ []) owners) ≡ crossing_claims (map completed (set crossings k (with_line (get_or crossings k no_crossing) line)))
+  total_flow k line x before after kept within x_is before_is after_is =
+      let y : BuiltCrossing = get_or crossings k no_crossing in
+      let some = (All-get_or (λ z. AreCells (length links) z.cells) crossings k no_crossing within kept.crossed).some in
+      let step = claims_step y line some in
+      let changed = claims_with_flow k (with_line y line) within in
+      let before_y = before_is ∙ ap (λ z. claim_count_of (completed z)) x_is in
+      let after_y = after_is ∙ ap (λ z. claim_count_of (completed (with_line z line))) x_is in
+      elim (cases_lt before after) [
+        | inl more ↦
+            ap (λ b. length (cond b (owners ++ 0 ∷ []) owners)) (lt-ltb before after more)
+            ∙ omega (arith, length_push owners 0, step.1, changed, before_y, after_y, kept.numbered.owners_are_all)
+        | inr same ↦
+            ap (λ b. length (cond b (owners ++ 0 ∷ []) owners)) (le-ltb before after same)
+            ∙ omega (arith, step.0, changed, before_y, after_y, kept.numbered.owners_are_all)
+      ]
 
   -- a crossing is full by its claims alone, since each crossing has one
   pub crossing_full : (cells : List CellNo) → IsKept links count places crossings areas firsts owners → (leb 256 (length crossings) || ltb 256 (crossing_claims (map completed (crossings ++ record { cells = cells; flows = [] } ∷ [])))) ≡ leb 256 (length owners)

@@ -6,7 +6,7 @@ use Rattle.fleet_model.specs.Lists.{when, first_some}
 use Rattle.site_map.specs.declared.refused.BuildRefused.{BuildRefused}
 use Rattle.site_map.specs.declared.refused.BuildRefused.TheVariants.{UnknownCell, UnknownCrossing, Repeated, Full, TooManyCrossings, Foreign}
 
-abbrev crossing_causes : Bool → Bool → Bool → Bool → Option BuildRefused
+abbrev pub crossing_causes : Bool → Bool → Bool → Bool → Option BuildRefused
 crossing_causes a b c d = first_some (when a UnknownCell ∷ when b Repeated ∷ when c Full ∷ when d TooManyCrossings ∷ [])
 
 pub crossing_is_full : (a b c d : Bool) → a ≡ false → b ≡ false → c ≡ true → crossing_causes a b c d ≡ Some Full
@@ -29,7 +29,7 @@ crossing_is_fine false false true d p q r s = absurd (true≢false r)
 crossing_is_fine false false false true p q r s = absurd (true≢false s)
 crossing_is_fine false false false false p q r s = refl
 
-abbrev flow_causes : Bool → Bool → Bool → Bool → Bool → Option BuildRefused
+abbrev pub flow_causes : Bool → Bool → Bool → Bool → Bool → Option BuildRefused
 flow_causes a b c d e = first_some (when a UnknownCell ∷ when b UnknownCrossing ∷ when c Repeated ∷ when d Full ∷ when e Foreign ∷ [])
 
 pub flow_is_full : (a b c d e : Bool) → a ≡ false → b ≡ false → c ≡ false → d ≡ true → flow_causes a b c d e ≡ Some Full
@@ -64,3 +64,19 @@ any_foreign has is_taken (x ∷ xs) = ap (λ b. (not (has x) || is_taken x) || b
     one true true r = refl
     one true false r = refl
     one false t r = refl
+
+-- a crossing or a flow without a cause has none of the causes
+pub crossing_has_none : (a b c d : Bool) → crossing_causes a b c d ≡ None → (a ≡ false) × (b ≡ false) × (c ≡ false) × (d ≡ false)
+crossing_has_none true b c d none = cc
+crossing_has_none false true c d none = cc
+crossing_has_none false false true d none = cc
+crossing_has_none false false false true none = cc
+crossing_has_none false false false false none = (refl, refl, refl, refl)
+
+pub flow_has_none : (a b c d e : Bool) → flow_causes a b c d e ≡ None → (a ≡ false) × (b ≡ false) × (c ≡ false) × (d ≡ false) × (e ≡ false)
+flow_has_none true b c d e none = cc
+flow_has_none false true c d e none = cc
+flow_has_none false false true d e none = cc
+flow_has_none false false false true e none = cc
+flow_has_none false false false false true none = cc
+flow_has_none false false false false false none = (refl, refl, refl, refl, refl)

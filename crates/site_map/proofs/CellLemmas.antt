@@ -8,7 +8,7 @@ use Rattle.std.specs.List.{filter, list_any, list_all, range_with_len, All}
 use Rattle.std.proofs.lemmas.Bool.{true≢false, false≢true, eqb-true, eqb-false, eq-eqb, ne_eqb, ltb-true, lt-ltb, cases_Bool, cases_eq, or_parts, or_from, or_left, or_right, or_cases, and_parts, and_from, and_right}
 use Rattle.std.proofs.lemmas.List.{map-append, take_more, append-nil}
 use Rattle.std.proofs.lemmas.List.Folds.{list_any_at, list_any_more, list_any-append}
-use Rattle.std.proofs.lemmas.List.Elements.{All-nil, All-cons, All-head, All-tail, All-from_get_or, filter-append, filter_agree}
+use Rattle.std.proofs.lemmas.List.Elements.{All-nil, All-cons, All-head, All-tail, All-from_get_or, filter-append, filter_agree, All-weaker}
 use Rattle.fleet_base.specs.declared.numbers.CellNo.{CellNo}
 use Rattle.fleet_model.specs.Lists.{numbers_below}
 use Rattle.site_map.specs.Cells.{are_known, cells_below, has_cell, has_repeat, in_order, CellsRise}
@@ -71,7 +71,7 @@ numbers_below_push n = range_push 0 n ∙ ap (λ k. numbers_below n ++ k ∷ [])
 pub cells_below_push : (n : ℕ) → cells_below (suc n) ≡ cells_below n ++ record { 0 = n } ∷ []
 cells_below_push n = ap (map (λ k. record { 0 = k })) (numbers_below_push n) ∙ map-append (λ k. record { 0 = k }) (numbers_below n) (n ∷ [])
 
-to_cell : ℕ → CellNo
+abbrev pub to_cell : ℕ → CellNo
 to_cell k = record { 0 = k }
 
 -- a cell is among the kept ones where it is among all, and is kept
@@ -292,3 +292,27 @@ All_has P (d ∷ ds) c all has = elim (or_cases (eqb d.0 c.0) (has_cell ds c) ha
   | inl first ↦ let is : d ≡ c = ap (λ k. record { 0 = k }) (eqb-true d.0 c.0 first) in subst P is (All-head P d ds all)
   | inr later ↦ All_has P ds c (All-tail P d ds all) later
 ]
+
+pub none_has : (p : CellNo → Bool) (cells : List CellNo) (c : CellNo) → list_any p cells ≡ false → has_cell cells c ≡ true → p c ≡ false
+none_has p [] c none has = absurd (false≢true has)
+none_has p (d ∷ ds) c none has =
+    let parts = or_parts (p d) (list_any p ds) none in
+    elim (or_cases (eqb d.0 c.0) (has_cell ds c) has) [
+      | inl first ↦ let is : d ≡ c = ap (λ k. record { 0 = k }) (eqb-true d.0 c.0 first) in ap p (sym is) ∙ parts.0
+      | inr later ↦ none_has p ds c parts.1 later
+    ]
+
+-- what no cell of a list passes, none passes once they are in order
+pub none_in_order : (p : CellNo → Bool) (n : ℕ) (cells : List CellNo) → are_known n cells ≡ true → list_any p cells ≡ false → All (λ c. p c ≡ false) (in_order n cells)
+none_in_order p n cells known none =
+    All-weaker (λ c. has_cell (in_order n cells) c ≡ true) (λ c. p c ≡ false)
+    (λ c has. none_has p cells c none (sym (has_cell-in_order n cells c known) ∙ has))
+    (in_order n cells) (has_each (in_order n cells))
+
+-- a list that is written back as a whole
+pub written_back : {A : Type 0} (n : ℕ) (new rest : List A) → n ≡ length new → take n (new ++ rest) ≡ new
+written_back zero [] [] same = refl
+written_back zero [] (r ∷ rs) same = refl
+written_back (suc n) [] rest same = absurd (omega arith)
+written_back zero (x ∷ xs) rest same = absurd (omega arith)
+written_back (suc n) (x ∷ xs) rest same = ap (λ ys. x ∷ ys) (written_back n xs rest (omega arith))

@@ -143,3 +143,35 @@ pub claims_by_rest : (cells found line : List CellNo) (lines : List (List CellNo
 claims_by_rest cells found line lines free members has_rest left kept is_member are left_is =
     claims_with_line cells line lines free members has_rest kept is_member
     ∙ ap (λ b. cond b (length lines + 2) (length lines + 1)) (sym (left_is ∙ ap (list_any (λ c. set.contains free c.0 && not (set.contains members c.0))) are))
+
+-- a line leaves no rest where there was none
+no_rest_still : (flows : List (List CellNo)) (line cells : List CellNo) → list_any (is_rest flows) cells ≡ false → list_any (is_rest (flows ++ line ∷ [])) cells ≡ false
+no_rest_still flows line [] none = refl
+no_rest_still flows line (c ∷ cs) none =
+    let parts = or_parts (is_rest flows c) (list_any (is_rest flows) cs) none in
+    or_from (is_rest (flows ++ line ∷ []) c) (list_any (is_rest (flows ++ line ∷ [])) cs)
+    (ap not (in_flow_push flows line c) ∙ taken (in_flow flows c) (has_cell line c) parts.0)
+    (no_rest_still flows line cs parts.1)
+  where
+    taken : (a b : Bool) → not a ≡ false → not (a || b) ≡ false
+    taken true b h = refl
+    taken false b h = absurd (true≢false h)
+
+-- a line adds one claim or none
+pub claims_step : (x : BuiltCrossing) (line : List CellNo) → 0 < length x.cells → (claim_count_of (completed x) ≤ claim_count_of (completed (with_line x line))) × (claim_count_of (completed (with_line x line)) ≤ claim_count_of (completed x) + 1)
+claims_step x line some =
+    let before = claim_count-completed x.cells x.flows some in
+    let after = claim_count-completed x.cells (x.flows ++ line ∷ []) some in
+    let long = length_push x.flows line in
+    elim (cases_Bool (list_any (is_rest x.flows) x.cells)) [
+      | inl rest ↦
+          let before_is = before ∙ ap (λ b. cond b (length x.flows + 1) (length x.flows)) rest in
+          elim (cases_Bool (list_any (is_rest (x.flows ++ line ∷ [])) x.cells)) [
+            | inl left ↦ let after_is = after ∙ ap (λ b. cond b (length (x.flows ++ line ∷ []) + 1) (length (x.flows ++ line ∷ []))) left in (omega (arith, before_is, after_is, long), omega (arith, before_is, after_is, long))
+            | inr gone ↦ let after_is = after ∙ ap (λ b. cond b (length (x.flows ++ line ∷ []) + 1) (length (x.flows ++ line ∷ []))) gone in (omega (arith, before_is, after_is, long), omega (arith, before_is, after_is, long))
+          ]
+      | inr none ↦
+          let before_is = before ∙ ap (λ b. cond b (length x.flows + 1) (length x.flows)) none in
+          let after_is = after ∙ ap (λ b. cond b (length (x.flows ++ line ∷ []) + 1) (length (x.flows ++ line ∷ []))) (no_rest_still x.flows line x.cells none) in
+          (omega (arith, before_is, after_is, long), omega (arith, before_is, after_is, long))
+    ]

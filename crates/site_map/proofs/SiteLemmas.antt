@@ -22,7 +22,7 @@ use Rattle.site_map.specs.Built.{BuiltSite, completed_site, no_crossing}
 use Rattle.site_map.specs.Claims.{cell_group, claims_from, footprint_in, groups_from, groups_of, is_alone, site_of}
 use Rattle.fleet_base.specs.declared.limits.TheConstants.{MAX_COST}
 use Rattle.site_map.specs.Inside.{IsKept, place_in, places_from, places_list}
-use Rattle.site_map.proofs.CellLemmas.{has_cell-filter, no_cell, some_has}
+use Rattle.site_map.proofs.CellLemmas.{has_cell-filter, no_cell, some_has, to_cell}
 use Rattle.site_map.proofs.ClaimLemmas.{crossing_claims_front, crossing_claims_more}
 use Rattle.site_map.proofs.CrossingLemmas.{claim_count-completed, is_rest}
 use Rattle.site_map.proofs.PlaceLemmas.{has_it, length-places, length-places_list, position_new, position_old, position_past, position_within}
@@ -161,9 +161,9 @@ length-claims first last base xs c places are listed =
 pub footprint_at : (built : BuiltSite) (c : CellNo) → c.0 < built.cells → footprint_of (site_of built) c ≡ footprint_in built c
 unfolding footprint_of
 footprint_at built c within =
-    let long : c.0 < length (cells_below built.cells) = omega (arith, length-map-range_with_len (λ k. record { 0 = k }) 0 built.cells) in
+    let long : c.0 < length (cells_below built.cells) = omega (arith, length-map-range_with_len to_cell 0 built.cells) in
     get_or-map (footprint_in built) (cells_below built.cells) c.0 no_cell [] long
-    ∙ ap (footprint_in built) (get_or-map-range_with_len (λ k. record { 0 = k }) 0 built.cells c.0 c.0 no_cell within (zero-add c.0))
+    ∙ ap (footprint_in built) (get_or-map-range_with_len to_cell 0 built.cells c.0 c.0 no_cell within (zero-add c.0))
 
 footprint_past : (built : BuiltSite) (c : CellNo) → built.cells ≤ c.0 → footprint_of (site_of built) c ≡ []
 unfolding footprint_of
@@ -171,7 +171,7 @@ footprint_past built c past =
     get_or_past (map (footprint_in built) (cells_below built.cells)) c.0 [] (omega (arith, length-footprints built))
   where
     length-footprints : (b : BuiltSite) → length (map (footprint_in b) (cells_below b.cells)) ≡ b.cells
-    length-footprints b = length-map (cells_below b.cells) (footprint_in b) ∙ length-map-range_with_len (λ k. record { 0 = k }) 0 b.cells
+    length-footprints b = length-map (cells_below b.cells) (footprint_in b) ∙ length-map-range_with_len to_cell 0 b.cells
 
 -- the links from a cell
 pub links_at_cell : (built : BuiltSite) (c : CellNo) → links_from (site_of built) c ≡ get_or built.links c.0 []

@@ -1,7 +1,8 @@
 //! Building a site.
 
-ghost use Rattle.std.specs.Prelude.{◌≡◌, ◌<◌, ◌≤◌, ◌&&◌, true, not, [], ◌∷◌, ◌++◌, length, map, slice_set, None, Some, All, IfOk, IfErr, OnOk, OnErr};
+ghost use Rattle.std.specs.Prelude.{◌≡◌, ◌<◌, ◌≤◌, ◌&&◌, true, not, if◌then◌else◌, [], ◌∷◌, ◌++◌, length, map, slice_set, None, Some, All, IfOk, IfErr, OnOk, OnErr};
 ghost use Rattle.std.specs.Option.{ForSome};
+ghost use Rattle.std.specs.Vec.{vec_capacity, vec_len};
 ghost use Rattle.std.specs.FinSet as set;
 ghost use Rattle.fleet_base.specs.declared.limits.TheConstants.{MAX_CROSSINGS_OF_CELL};
 ghost use Rattle.site_map.specs.Cells.{has_cell};
@@ -268,9 +269,7 @@ impl SiteBuilder {
         let after = changed.claim_count_with(members);
         changed.add_line(line, members)?;
         mark(&mut self.places, members, crossing, number);
-        if before < after {
-            self.owners.push(0).unwrap();
-        }
+        push_if(&mut self.owners, before < after);
         number_claims(&self.crossings, &mut self.firsts, &mut self.owners);
         Ok(())
     }
@@ -304,5 +303,15 @@ impl SiteBuilder {
             firsts: Vec::from_slice(alloc, &self.firsts)?,
             owners: Vec::from_slice(alloc, &self.owners)?,
         })
+    }
+}
+
+// Pushes a blank owner, if one is wanted, into the room that is left.
+fn push_if(owners: &mut Vec<u32>, wanted: bool)
+    requires { vec_len owners.old < vec_capacity owners.old }
+    ensures { owners.new.items ≡ (if wanted then owners.old.items ++ 0 ∷ [] else owners.old.items) }
+{
+    if wanted {
+        owners.push(0).unwrap();
     }
 }
