@@ -2,8 +2,8 @@
 use Rattle.std.proofs.Common.{◌≡◌, ℕ, zero, suc, ◌+◌, ◌-◌, ◌<◌, ◌≤◌, max, Bool, true, false, cond, not, ◌&&◌, ◌||◌, eqb, ◌⊎◌, inl, inr, List, [], ◌∷◌, ◌++◌, length, map, get_or, take, replicate, Option, Some, None, refl, sym, ap, subst, ◌∙◌, arith, zero-add}
 use Rattle.std.specs.List.{filter, list_any, position_or_len, slice_get, range_with_len, find, All, Contains}
 use Rattle.std.specs.Option.{option_map, unwrap_or}
-use Rattle.std.proofs.lemmas.Bool.{cases_Bool, cases_lt, cases_eq, false≢true, true≢false, not_from_false, and_from, or_cases, or_parts, eqb-true, eq-eqb, lt-ltb}
-use Rattle.std.proofs.lemmas.List.{get_or-map, get_or_past, length-append, length-map, length-replicate}
+use Rattle.std.proofs.lemmas.Bool.{cases_Bool, cases_lt, cases_eq, false≢true, true≢false, not_from_false, and_from, or_cases, or_parts, eqb-true, eq-eqb, lt-ltb, ne_eqb}
+use Rattle.std.proofs.lemmas.List.{get_or-map, get_or_past, length-append, length-map, length-replicate, length_push}
 use Rattle.std.proofs.lemmas.List.FromFn.{length-map-range_with_len, get_or-map-range_with_len, length-range_with_len, get_or-range_with_len}
 use Rattle.std.proofs.lemmas.List.Elements.{All-nil, All-cons, All-head, All-tail, All-get_or, All-weaker}
 use Rattle.std.proofs.lemmas.Option.{slice_get-get_or, slice_get-map}
@@ -16,12 +16,13 @@ use Rattle.fleet_model.specs.Lists.{numbers_below}
 use Rattle.fleet_model.specs.Sites.{Site, cell_count, footprint_of, link_cost, links_from, IsSite}
 use Rattle.site_map.specs.declared.places.Place.{Place}
 use Rattle.site_map.specs.declared.places.Places.{Places}
+use Rattle.site_map.specs.declared.places.Places.TheVariants.{Free}
 use Rattle.site_map.specs.Cells.{cells_below, has_cell}
 use Rattle.site_map.specs.Crossings.{BuiltCrossing, claim_count_of, completed, crossing_claims, flow_of, flows_with_rest, in_flow, rest_of}
 use Rattle.site_map.specs.Built.{BuiltSite, completed_site, no_crossing}
 use Rattle.site_map.specs.Claims.{cell_group, claims_from, footprint_in, groups_from, groups_of, is_alone, site_of}
 use Rattle.fleet_base.specs.declared.limits.TheConstants.{MAX_COST}
-use Rattle.site_map.specs.Inside.{IsKept, place_in, places_from, places_list}
+use Rattle.site_map.specs.Inside.{AreLinks, IsKept, place_in, places_from, places_list}
 use Rattle.site_map.proofs.CellLemmas.{has_cell-filter, no_cell, some_has, to_cell}
 use Rattle.site_map.proofs.ClaimLemmas.{crossing_claims_front, crossing_claims_more}
 use Rattle.site_map.proofs.CrossingLemmas.{claim_count-completed, is_rest}
@@ -261,3 +262,124 @@ pub group_behind_cells : (built : BuiltSite) (k i : ℕ) → k < length built.cr
 group_behind_cells built k i known within =
     slice_get_right (map cell_group (numbers_below built.cells)) (groups_from built.cells built.crossings) built.cells (crossing_claims (take k built.crossings) + i) (sym (length-cell_groups built.cells))
     ∙ group_of_crossing built.cells built.crossings k i known within
+
+-- the site that these parts make, with the last flow of each crossing
+abbrev pub whole : List (List Link) → List BuiltCrossing → List (List CellNo) → BuiltSite
+whole links crossings areas = record { cells = length links; crossings = map completed crossings; areas = areas; links = links }
+
+-- a crossing has no flows where it has no lines
+pub alone-completed : (x : BuiltCrossing) → eqb (length x.flows) 0 ≡ is_alone (completed x)
+alone-completed x = go x.flows (rest_of x)
+  where
+    go : (flows : List (List CellNo)) (rest : List CellNo) → eqb (length flows) 0 ≡ eqb (length (flows_with_rest flows rest)) 0
+    go [] rest = refl
+    go (f ∷ fs) [] = refl
+    go (f ∷ fs) (r ∷ rs) = ne_eqb (length (f ∷ fs)) 0 (λ e. omega arith) ∙ sym (ne_eqb (length ((f ∷ fs) ++ (r ∷ rs) ∷ [])) 0 (λ e. omega (arith, length_push (f ∷ fs) (r ∷ rs))))
+
+flow_least : (x : BuiltCrossing) (c : CellNo) → flow_of x c ≤ length x.flows
+flow_least x c = elim (cases_Bool (in_flow x.flows c)) [
+  | inl has ↦ let h = position_within x.flows c has in omega (arith, h)
+  | inr none ↦ let h = position_past x.flows c none in omega (arith, h)
+]
+
+place_line : (k : ℕ) (x : BuiltCrossing) (c : CellNo) → unwrap_or (place_in k x c).line (length x.flows) ≡ flow_of x c
+place_line k x c = elim (cases_Bool (in_flow x.flows c)) [
+  | inl has ↦ ap (λ b. unwrap_or (cond b (Some (flow_of x c)) None) (length x.flows)) has
+  | inr none ↦ ap (λ b. unwrap_or (cond b (Some (flow_of x c)) None) (length x.flows)) none ∙ sym (position_past x.flows c none)
+]
+
+-- the places of a cell are in crossings of the site
+pub places_known : (last : ℕ → ℕ) (k : ℕ) (xs : List BuiltCrossing) (c : CellNo) → ((i : ℕ) → i < length xs → last (k + i) ≡ length (get_or xs i no_crossing).flows) → All (λ p. (p.crossing < k + length xs) × (unwrap_or p.line (last p.crossing) ≤ last p.crossing)) (places_from k xs c)
+places_known last k [] c lasts = All-nil (λ p. (p.crossing < k + 0) × (unwrap_or p.line (last p.crossing) ≤ last p.crossing))
+places_known last k (x ∷ xs) c lasts =
+    let lasts' : (i : ℕ) → i < length xs → last (k + 1 + i) ≡ length (get_or xs i no_crossing).flows =
+    λ i within. ap last (let e : k + 1 + i ≡ k + suc i = omega arith in e) ∙ lasts (suc i) (omega arith)
+    in
+    let last_is : last k ≡ length x.flows = ap last (let e : k ≡ k + 0 = omega arith in e) ∙ lasts 0 (omega arith) in
+    let later : All (λ (p : Place). (p.crossing < k + suc (length xs)) × (unwrap_or p.line (last p.crossing) ≤ last p.crossing)) (places_from (k + 1) xs c) =
+    All-weaker (λ (p : Place). (p.crossing < k + 1 + length xs) × (unwrap_or p.line (last p.crossing) ≤ last p.crossing)) (λ p. (p.crossing < k + suc (length xs)) × (unwrap_or p.line (last p.crossing) ≤ last p.crossing)) (λ p h. (let below = h.0 in omega arith, h.1)) (places_from (k + 1) xs c) (places_known last (k + 1) xs c lasts')
+    in
+    let here : (k < k + suc (length xs)) × (unwrap_or (place_in k x c).line (last k) ≤ last k) =
+    (omega arith, subst (λ n. unwrap_or (place_in k x c).line n ≤ n) (sym last_is) (subst (λ n. n ≤ length x.flows) (sym (place_line k x c)) (flow_least x c)))
+    in
+    elim (has_cell x.cells c) as (λ b. All (λ (p : Place). (p.crossing < k + suc (length xs)) × (unwrap_or p.line (last p.crossing) ≤ last p.crossing)) (cond b (place_in k x c ∷ places_from (k + 1) xs c) (places_from (k + 1) xs c))) [
+      | true ↦ All-cons (λ (p : Place). (p.crossing < k + suc (length xs)) × (unwrap_or p.line (last p.crossing) ≤ last p.crossing)) (place_in k x c) (places_from (k + 1) xs c) here later
+      | false ↦ later
+    ]
+
+-- the footprint of a cell by its places
+pub footprint_by_places : (links : List (List Link)) (count : ℕ) (places : List Places) (crossings : List BuiltCrossing) (areas : List (List CellNo)) (firsts owners : List ℕ) (cell : CellNo) (here : Places) → IsKept links count places crossings areas firsts owners → cell.0 < length links → here ≡ get_or places cell.0 Free → footprint_in (whole links crossings areas) cell ≡ record { 0 = cell.0 } ∷ map (claim_by (λ k. length links + crossing_claims (take k (map completed crossings))) (λ k. length (get_or crossings k no_crossing).flows)) (places_list here)
+footprint_by_places links count places crossings areas firsts owners cell here kept known here_is =
+    let first : ℕ → ℕ = λ k. length links + crossing_claims (take k (map completed crossings)) in
+    let last : ℕ → ℕ = λ k. length (get_or crossings k no_crossing).flows in
+    let same : (i : ℕ) → 0 + i ≡ i = λ i. omega arith in
+    ap (λ ds. record { 0 = cell.0 } ∷ ds)
+    (claims_by_places first last 0 (length links) crossings cell (λ i within. ap first (same i)) (λ i within. ap last (same i))
+    ∙ ap (map (claim_by first last)) (sym (ap places_list here_is ∙ kept.found cell known)))
+
+-- a claim behind the last of a list that rises is put at its end
+pub placed_last : (low : ℕ) (claims : List ClaimNo) (d : ClaimNo) → RiseFrom low (claims ++ d ∷ []) → (placed claims d ≡ claims ++ d ∷ []) × (Contains claims d → ⊥)
+placed_last low [] d rise = (refl, λ (i, within, at). omega arith)
+placed_last low (e ∷ es) d rise =
+    let later = placed_last (e.0 + 1) es d rise.1 in
+    let above = last_above (e.0 + 1) es d rise.1 in
+    let below : e.0 < d.0 = omega arith in
+    (ap (λ b. cond b (e ∷ placed es d) (d ∷ e ∷ es)) (lt-ltb e.0 d.0 below) ∙ ap (λ l. e ∷ l) later.0, missing e es d below later.1)
+  where
+    last_above : (low : ℕ) (ds : List ClaimNo) (d : ClaimNo) → RiseFrom low (ds ++ d ∷ []) → low ≤ d.0
+    last_above low [] d rise = rise.0
+    last_above low (e ∷ es) d rise = let above = last_above (e.0 + 1) es d rise.1 in let first = rise.0 in omega arith
+
+    missing : (e : ClaimNo) (es : List ClaimNo) (d : ClaimNo) → e.0 < d.0 → (Contains es d → ⊥) → Contains (e ∷ es) d → ⊥
+    missing e es d below none (zero, within, at) = let same : e.0 ≡ d.0 = ap (λ (f : ClaimNo). f.0) at in omega arith
+    missing e es d below none (suc i, within, at) = none (i, omega arith, at)
+
+-- the front of a list that rises, rises
+pub RiseFrom-front : (low : ℕ) (xs ys : List ClaimNo) → RiseFrom low (xs ++ ys) → RiseFrom low xs
+RiseFrom-front low [] ys rise = tt
+RiseFrom-front low (x ∷ xs) ys rise = (rise.0, RiseFrom-front (x.0 + 1) xs ys rise.1)
+
+-- every site is one that the rules speak of
+module _ (links : List (List Link)) (count : ℕ) (places : List Places) (crossings : List BuiltCrossing) (areas : List (List CellNo)) (firsts owners : List ℕ) where
+  pub footprint_short : (a : CellNo) → IsKept links count places crossings areas firsts owners → length (footprint_of (site_of (whole links crossings areas)) a) ≤ 3
+  footprint_short a kept =
+      elim (cases_lt a.0 (length links)) [
+        | inl within ↦
+            let here : Places = get_or places a.0 Free in
+            let is = ap length (footprint_at (whole links crossings areas) a within ∙ footprint_by_places links count places crossings areas firsts owners a here kept within refl) in
+            let few = length-places_list here in
+            let same = length-map (places_list here) (claim_by (λ k. length links + crossing_claims (take k (map completed crossings))) (λ k. length (get_or crossings k no_crossing).flows)) in
+            omega (arith, is, few, same)
+        | inr past ↦ let none = ap length (footprint_past (whole links crossings areas) a past) in omega (arith, none)
+      ]
+
+  pub footprint_rises : (a : CellNo) → RiseFrom 0 (footprint_of (site_of (whole links crossings areas)) a)
+  footprint_rises a =
+      elim (cases_lt a.0 (length links)) [
+        | inl within ↦ subst (RiseFrom 0) (sym (footprint_at (whole links crossings areas) a within)) (omega arith, claims_rise (a.0 + 1) (length links) crossings a (omega arith))
+        | inr past ↦ subst (RiseFrom 0) (sym (footprint_past (whole links crossings areas) a past)) tt
+      ]
+
+  costs_known : (a b : CellNo) (cost : ℕ) → IsKept links count places crossings areas firsts owners → link_cost (site_of (whole links crossings areas)) a b ≡ Some cost → (1 ≤ cost) × (a.0 < length links) × (b.0 < length links)
+  costs_known a b cost kept found =
+      let there = sym (cost_at (whole links crossings areas) a b) ∙ found in
+      elim (cases_lt a.0 (length links)) [
+        | inl within ↦
+            let are = All-get_or (AreLinks (length links)) links a.0 [] within kept.linked in
+            let fact = found_link (length links) b.0 cost (get_or links a.0 []) are.known are.costs there in
+            (fact.0, within, fact.1)
+        | inr past ↦
+            let none : None ≡ Some cost = sym (ap (λ row. option_map (λ l. l.cost) (find (λ l. eqb l.to.0 b.0) row)) (get_or_past links a.0 [] past)) ∙ there in
+            cc
+      ]
+
+  length-site : length (map (footprint_in (whole links crossings areas)) (cells_below (length links))) ≡ length links
+  length-site = length-map (cells_below (length links)) (footprint_in (whole links crossings areas)) ∙ length-map-range_with_len to_cell 0 (length links)
+
+  pub is_site : IsKept links count places crossings areas firsts owners → IsSite (site_of (whole links crossings areas))
+  is_site kept = record {
+    small = omega (arith, length-site, kept.few_cells);
+    short = λ a. footprint_short a kept;
+    ascending = footprint_rises;
+    links = λ a b cost found. let fact = costs_known a b cost kept found in (fact.0, omega (arith, fact.1, length-site), omega (arith, fact.2, length-site));
+  }

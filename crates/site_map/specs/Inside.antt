@@ -94,3 +94,8 @@ pub record IsKept (links : List (List Link)) (link_count : ℕ) (places : List P
 -- the claim of a cell with this place: behind the cells and the claims of the crossings before, by its flow
 abbrev pub claim_at : BuiltSite → Place → ℕ
 claim_at site place = site.cells + crossing_claims (take place.crossing (map completed site.crossings)) + unwrap_or place.line (length (crossing_at site place.crossing).flows)
+
+-- the place is in a crossing of the site, and in one of its lines or none
+pub record IsPlace (site : BuiltSite) (place : Place) : Type 0 where
+  pub known : place.crossing < length site.crossings
+  pub line : unwrap_or place.line (length (crossing_at site place.crossing).flows) ≤ length (crossing_at site place.crossing).flows

@@ -1,14 +1,14 @@
 //! Building a site.
 
-ghost use Rattle.std.specs.Prelude.{◌≡◌, ◌<◌, ◌≤◌, ◌&&◌, true, not, if◌then◌else◌, [], ◌∷◌, ◌++◌, length, map, slice_set, None, Some, All, IfOk, IfErr, OnOk, OnErr};
-ghost use Rattle.std.specs.Option.{ForSome};
+ghost use Rattle.std.specs.Prelude.{◌≡◌, ◌<◌, ◌≤◌, ◌&&◌, true, not, if◌then◌else◌, [], ◌∷◌, ◌++◌, length, map, take, slice_index_or, slice_set, None, Some, All, IfOk, IfErr, OnOk, OnErr};
 ghost use Rattle.std.specs.Vec.{vec_capacity, vec_len};
 ghost use Rattle.std.specs.FinSet as set;
 ghost use Rattle.fleet_base.specs.declared.limits.TheConstants.{MAX_CROSSINGS_OF_CELL};
 ghost use Rattle.site_map.specs.Cells.{has_cell};
 ghost use Rattle.site_map.specs.Crossings.{completed, crossing_claims, in_flow, with_line};
-ghost use Rattle.site_map.specs.Built.{completed_site, crossing_at, crossings_with, no_site, with_area, with_cell, with_crossing, with_flow, with_link};
-ghost use Rattle.site_map.specs.Inside.{claim_at, AreCells};
+ghost use Rattle.site_map.specs.Built.{completed_site, crossing_at, crossings_with, no_crossing, no_site, with_area, with_cell, with_crossing, with_flow, with_link};
+ghost use Rattle.site_map.specs.Claims.{footprint_in, is_alone};
+ghost use Rattle.site_map.specs.Inside.{claim_at, places_list, AreCells, IsOwner, IsPlace};
 ghost use Rattle.site_map.specs.Refusals.{area_cause, cell_cause, crossing_cause, flow_cause, link_cause, IsRefusal};
 
 use crate::cells::{are_known, ascending, copy_paths, set_of};
@@ -274,18 +274,56 @@ impl SiteBuilder {
         Ok(())
     }
 
+    // The number of cells.
+    pub(crate) fn cell_count(&self) -> u32
+        ensures count { result ≡ self.now.cells }
+        ensures small { result ≤ MAX_CELLS }
+    {
+        self.links.len() as u32
+    }
+
+    // The crossing of a claim, with the claims of crossings numbered from 0.
+    pub(crate) fn crossing_of(&self, claim: u32) -> u32
+        requires { claim < crossing_claims (map completed self.now.crossings) }
+        ensures { IsOwner (map completed self.now.crossings) claim result }
+    {
+        self.owners[claim as usize]
+    }
+
+    // The first claim of a crossing, with the claims of crossings numbered from 0.
+    pub(crate) fn first_of(&self, crossing: u32) -> u32
+        requires { crossing < length self.now.crossings }
+        ensures first { result ≡ crossing_claims (take crossing (map completed self.now.crossings)) }
+        ensures small { result ≤ MAX_CROSSING_CLAIMS }
+    {
+        self.firsts[crossing as usize]
+    }
+
+    // Whether the crossing has no flows.
+    pub(crate) fn is_alone(&self, crossing: u32) -> bool
+        requires { crossing < length self.now.crossings }
+        ensures { result ≡ is_alone (slice_index_or (map completed self.now.crossings) crossing no_crossing) }
+    {
+        self.crossings[crossing as usize].line_count() == 0
+    }
+
+    // Where the cell stands in crossings.
+    pub(crate) fn places_of(&self, cell: CellNo) -> Places
+        requires { cell.0 < self.now.cells }
+        ensures claims { footprint_in (completed_site self.now) cell ≡ record { 0 = cell.0 } ∷ map (λ p. record { 0 = claim_at self.now p }) (places_list result) }
+        ensures known { All (IsPlace self.now) (places_list result) }
+    {
+        self.places[cell.0 as usize]
+    }
+
     // The claim of a cell with this place.
     pub(crate) fn claim_at(&self, place: Place) -> ClaimNo
-        requires known { place.crossing < length self.now.crossings }
-        requires line { ForSome place.line (λ f. f < length (crossing_at self.now place.crossing).flows) }
+        requires { IsPlace self.now place }
         ensures { result.0 ≡ claim_at self.now place }
     {
         let crossing = place.crossing as usize;
-        let flow = match place.line {
-            Some(line) => line,
-            None => self.crossings[crossing].line_count() as u32,
-        };
-        ClaimNo(self.links.len() as u32 + self.firsts[crossing] + flow)
+        let flow = self.crossings[crossing].flow_number(place.line);
+        ClaimNo((self.links.len() + self.firsts[crossing] as usize + flow) as u32)
     }
 
     // An equal builder.

@@ -2,6 +2,7 @@
 
 ghost use Rattle.std.specs.Prelude.{◌≡◌, ◌<◌, ◌≤◌, ◌&&◌, true, not, [], List, length, All, IfOk, OnOk, OnErr};
 ghost use Rattle.std.specs.List.{list_all, list_any};
+ghost use Rattle.std.specs.Option.{unwrap_or};
 ghost use Rattle.std.specs.FinSet as set;
 ghost use Rattle.fleet_base.specs.declared.numbers.CellNo.{CellNo};
 ghost use Rattle.site_map.specs.Cells.{has_cell};
@@ -63,6 +64,16 @@ impl Crossing {
         ensures { result ≡ length self.now.flows }
     {
         self.lines.len()
+    }
+
+    // The number of the flow of a cell that is in this line, or in none.
+    pub(crate) fn flow_number(&self, line: Option<u32>) -> usize
+        ensures { result ≡ unwrap_or line (length self.now.flows) }
+    {
+        match line {
+            Some(number) => number as usize,
+            None => self.lines.len(),
+        }
     }
 
     // How many flows there are, with the last one.

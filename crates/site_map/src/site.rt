@@ -4,7 +4,7 @@ ghost use Rattle.std.specs.Prelude.{◌≡◌, ◌≢◌, ◌<◌, ◌≤◌, le
 ghost use Rattle.std.specs.Option.{option_map};
 ghost use Rattle.fleet_base.specs.Lists.{RiseFrom};
 ghost use Rattle.fleet_base.specs.declared.limits.TheConstants.{MAX_COST};
-ghost use Rattle.fleet_model.specs.Sites.{footprint_of, in_conflict, link_cost, links_from, IsSite};
+ghost use Rattle.fleet_model.specs.Sites.{exclude, footprint_of, in_conflict, link_cost, links_from, IsSite};
 ghost use Rattle.site_map.specs.Built.{area_at, crossing_at, link_total};
 ghost use Rattle.site_map.specs.Cells.{CellsRise, LinksRise};
 ghost use Rattle.site_map.specs.Claims.{claim_total, group_at, names_of, site_of};
@@ -15,6 +15,7 @@ use crate::places::Places;
 use fleet_base::claims::Claims;
 use fleet_base::numbers::{CellNo, ClaimGroup, ClaimNo, Link};
 use fleet_base::path::NoMemory;
+use std::alloc::Global;
 use std::marker::Model;
 
 /// A site, which never changes. Contracts see what it was built of: the number of cells, the
@@ -39,8 +40,7 @@ impl Site {
         ensures count { result ≡ self.now.cells }
         ensures site { IsSite (site_of self.now) }
     {
-        let built = &self.built;
-        built.links.len() as u32
+        self.built.cell_count()
     }
 
     /// The number of crossings.
@@ -88,17 +88,15 @@ impl Site {
         ensures known { All (λ c. c.0 < claim_total self.now) result }
     {
         let built = &self.built;
-        let mut claims = Claims::new(built.alloc);
-        claims.put(ClaimNo(cell.0));
-        match built.places[cell.0 as usize] {
-            Places::Free => {}
-            Places::One(place) => claims.put(built.claim_at(place)),
+        let own = ClaimNo(cell.0);
+        match built.places_of(cell) {
+            Places::Free => claims_of(built.alloc, &[own]),
+            Places::One(place) => claims_of(built.alloc, &[own, built.claim_at(place)]),
             Places::Two(place, other) => {
-                claims.put(built.claim_at(place));
-                claims.put(built.claim_at(other));
+                let claims = [own, built.claim_at(place), built.claim_at(other)];
+                claims_of(built.alloc, &claims)
             }
         }
-        claims
     }
 
     /// What the link from one cell to another costs; none where there is no link.
@@ -163,8 +161,7 @@ impl Site {
         ensures conflict { result ≡ in_conflict (site_of self.now).groups one other }
         ensures symmetric { result ≡ in_conflict (site_of self.now).groups other one }
     {
-        let group = self.group(one);
-        group.group == self.group(other).group && (one.0 != other.0 || group.alone)
+        exclude(self.group(one), self.group(other), one.0 == other.0)
     }
 
     /// The group of a claim, and whether it is alone in it.
@@ -172,18 +169,17 @@ impl Site {
         requires { claim.0 < claim_total self.now }
         ensures { slice_get (site_of self.now).groups claim.0 ≡ Some result }
     {
-        let built = &self.built;
-        let cells = built.links.len() as u32;
+        let cells = self.built.cell_count();
         if claim.0 < cells {
             return ClaimGroup {
                 group: claim.0,
                 alone: true,
             };
         }
-        let crossing = built.owners[(claim.0 - cells) as usize] as usize;
+        let crossing = self.built.crossing_of(claim.0 - cells);
         ClaimGroup {
-            group: cells + built.firsts[crossing],
-            alone: built.crossings[crossing].line_count() == 0,
+            group: cells + self.built.first_of(crossing),
+            alone: self.built.is_alone(crossing),
         }
     }
 
@@ -192,21 +188,22 @@ impl Site {
         requires { claim.0 < claim_total self.now }
         ensures { slice_get (names_of self.now) claim.0 ≡ Some result }
     {
-        let built = &self.built;
-        let cells = built.links.len() as u32;
+        let cells = self.built.cell_count();
         if claim.0 < cells {
             return ClaimName::Cell(CellNo(claim.0));
         }
-        let crossing = built.owners[(claim.0 - cells) as usize];
-        let place = crossing as usize;
-        let flow = claim.0 - cells - built.firsts[place];
-        ClaimName::Crossing {
-            crossing,
-            flow: if built.crossings[place].line_count() == 0 {
-                None
-            } else {
-                Some(flow)
-            },
+        let crossing = self.built.crossing_of(claim.0 - cells);
+        let flow = claim.0 - cells - self.built.first_of(crossing);
+        if self.built.is_alone(crossing) {
+            ClaimName::Crossing {
+                crossing,
+                flow: None,
+            }
+        } else {
+            ClaimName::Crossing {
+                crossing,
+                flow: Some(flow),
+            }
         }
     }
 
@@ -218,4 +215,24 @@ impl Site {
             built: self.built.copy()?,
         })
     }
+}
+
+// The claims, which rise, in a list that takes no memory.
+fn claims_of(alloc: Global, claims: &[ClaimNo]) -> Claims
+    requires rise { RiseFrom 0 claims.now }
+    requires short { length claims.now ≤ 3 }
+    ensures { result ≡ claims.now }
+{
+    let mut list = Claims::new(alloc);
+    for claim in claims {
+        list.put(*claim);
+    }
+    list
+}
+
+// Whether claims of these groups exclude each other; `same` tells whether they are one claim.
+fn exclude(one: ClaimGroup, other: ClaimGroup, same: bool) -> bool
+    ensures { result ≡ exclude (Some one) (Some other) same }
+{
+    one.group == other.group && (!same || one.alone)
 }

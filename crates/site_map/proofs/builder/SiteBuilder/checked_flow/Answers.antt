@@ -8,6 +8,9 @@ use Rattle.site_map.specs.Crossings.{BuiltCrossing, claim_count_of, completed, c
 use Rattle.site_map.specs.Built.{no_crossing}
 use Rattle.site_map.specs.Refusals.{flow_cause}
 use Rattle.site_map.proofs.BuilderLemmas.{claim_count_within, claims_with_flow}
+use Rattle.std.proofs.lemmas.List.Elements.{All-get_or}
+use Rattle.site_map.specs.Inside.{AreCells}
+use Rattle.site_map.proofs.CrossingLemmas.{claims_step}
 use Rattle.site_map.proofs.CauseLemmas.{any_foreign, flow_is_full, flow_is_foreign, flow_is_fine}
 use Rattle.site_map.proofs.CellLemmas.{has_cell-in_order, read_at}
 use Rattle.site_map.proofs.builder.SiteBuilder.checked_flow.Goals as goal
@@ -30,7 +33,19 @@ overflow_sub-others c =
 
 pub overflow_add-others : goal.overflow_add-others
 overflow_add-others c =
-    omega arith
+    let n : ℕ = length c.self.inside.links.items in
+    let k : ℕ = c.args.crossing in
+    let xs : List BuiltCrossing = c.self.inside.crossings.items in
+    let within : k < length xs = omega arith in
+    let x = read_at xs k c.index-changed.result.now no_crossing within c.index-changed.ensures in
+    let most = claim_count_within c.self.inside.links.items c.self.inside.link_count c.self.inside.places.items c.self.inside.crossings.items c.self.inside.areas.items c.self.inside.firsts.items c.self.inside.owners.items k within in
+    let before = c.claim_count.ensures ∙ ap (λ y. claim_count_of (completed y)) x in
+    let count : c.len.result ≡ n = omega arith in
+    let known : are_known n c.args.cells.now ≡ true = subst (λ m. are_known m c.args.cells.now ≡ true) count (sym c.are_known.ensures ∙ c.if-not-are_known.false) in
+    let after = c.claim_count_with.ensures (in_order n c.args.cells.now) (λ d. c.in-Some.ensures.numbers d ∙ sym (has_cell-in_order n c.args.cells.now d known)) ∙ ap (λ y. claim_count_of (completed (with_line y (in_order n c.args.cells.now)))) x in
+    let some = (All-get_or (λ z. AreCells n z.cells) xs k no_crossing within c.self.invariant.crossed).some in
+    let step = claims_step (get_or xs k no_crossing) (in_order n c.args.cells.now) some in
+    omega (arith, most, before, after, step.1, c.self.invariant.few_claims)
 
 pub returns-then-others-claim_count_with-clause-refused : goal.returns-then-others-claim_count_with-clause-refused
 returns-then-others-claim_count_with-clause-refused c =
