@@ -1,8 +1,8 @@
 -- Laws of a site as built: footprints, groups and names.
-use Rattle.std.proofs.Common.{◌≡◌, ℕ, zero, suc, ◌+◌, ◌-◌, ◌<◌, ◌≤◌, max, Bool, true, false, cond, not, ◌&&◌, ◌||◌, eqb, ◌⊎◌, inl, inr, List, [], ◌∷◌, ◌++◌, length, map, get_or, take, replicate, Option, Some, None, refl, sym, ap, subst, ◌∙◌, arith, zero-add}
-use Rattle.std.specs.List.{filter, list_any, position_or_len, slice_get, range_with_len, find, All, Contains}
+use Rattle.std.proofs.Common.{◌≡◌, ℕ, zero, suc, ◌+◌, ◌-◌, ◌<◌, ◌≤◌, max, Bool, true, false, cond, not, ◌&&◌, ◌||◌, eqb, ◌==◌, if◌then◌else◌, ◌≢◌, ◌⊎◌, inl, inr, List, [], ◌∷◌, ◌++◌, length, map, get_or, take, replicate, Option, Some, None, refl, sym, ap, subst, ◌∙◌, arith, zero-add}
+use Rattle.std.specs.List.{filter, list_any, position_or_len, slice_get, range_with_len, find, All, AllPairs, Contains}
 use Rattle.std.specs.Option.{option_map, unwrap_or}
-use Rattle.std.proofs.lemmas.Bool.{cases_Bool, cases_lt, cases_eq, false≢true, true≢false, not_from_false, and_from, or_cases, or_parts, eqb-true, eq-eqb, lt-ltb, ne_eqb}
+use Rattle.std.proofs.lemmas.Bool.{cases_Bool, cases_lt, cases_eq, false≢true, true≢false, not_from_false, and_from, or_cases, or_parts, eqb-true, eq-eqb, lt-ltb, ne_eqb, false_from_ne_true}
 use Rattle.std.proofs.lemmas.List.{get_or-map, get_or_past, length-append, length-map, length-replicate, length_push}
 use Rattle.std.proofs.lemmas.List.FromFn.{length-map-range_with_len, get_or-map-range_with_len, length-range_with_len, get_or-range_with_len}
 use Rattle.std.proofs.lemmas.List.Elements.{All-nil, All-cons, All-head, All-tail, All-get_or, All-weaker}
@@ -13,16 +13,19 @@ use Rattle.fleet_base.specs.declared.numbers.ClaimNo.{ClaimNo}
 use Rattle.fleet_base.specs.declared.numbers.Link.{Link}
 use Rattle.fleet_base.specs.Lists.{placed, RiseFrom}
 use Rattle.fleet_model.specs.Lists.{numbers_below}
-use Rattle.fleet_model.specs.Sites.{Site, cell_count, footprint_of, link_cost, links_from, IsSite}
+use Rattle.fleet_model.specs.Sites.{Site, cell_count, footprint_of, in_conflict, link_cost, links_from, IsSite}
 use Rattle.site_map.specs.declared.places.Place.{Place}
 use Rattle.site_map.specs.declared.places.Places.{Places}
 use Rattle.site_map.specs.declared.places.Places.TheVariants.{Free}
+use Rattle.site_map.specs.declared.names.ClaimName.{ClaimName}
+use Rattle.site_map.specs.declared.names.ClaimName.TheVariants.{Cell, Crossing}
+use Rattle.fleet_model.proofs.Claims.{conflict_symmetric}
 use Rattle.site_map.specs.Cells.{cells_below, has_cell}
 use Rattle.site_map.specs.Crossings.{BuiltCrossing, claim_count_of, completed, crossing_claims, flow_of, flows_with_rest, in_flow, rest_of}
 use Rattle.site_map.specs.Built.{BuiltSite, completed_site, no_crossing}
-use Rattle.site_map.specs.Claims.{cell_group, claims_from, footprint_in, groups_from, groups_of, is_alone, site_of}
+use Rattle.site_map.specs.Claims.{cell_group, claim_total, claims_from, flow_names, footprint_in, groups_from, groups_of, is_alone, names_from, names_of, site_of}
 use Rattle.fleet_base.specs.declared.limits.TheConstants.{MAX_COST}
-use Rattle.site_map.specs.Inside.{AreLinks, IsKept, place_in, places_from, places_list}
+use Rattle.site_map.specs.Inside.{AreLinks, IsKept, IsOwner, place_in, places_from, places_list}
 use Rattle.site_map.proofs.CellLemmas.{has_cell-filter, no_cell, some_has, to_cell}
 use Rattle.site_map.proofs.ClaimLemmas.{crossing_claims_front, crossing_claims_more}
 use Rattle.site_map.proofs.CrossingLemmas.{claim_count-completed, is_rest}
@@ -383,3 +386,145 @@ module _ (links : List (List Link)) (count : ℕ) (places : List Places) (crossi
     ascending = footprint_rises;
     links = λ a b cost found. let fact = costs_known a b cost kept found in (fact.0, omega (arith, fact.1, length-site), omega (arith, fact.2, length-site));
   }
+
+AllPairs-cons : {A : Type 0} (R : A → A → Type 0) (x : A) (xs : List A) → All (R x) xs → AllPairs R xs → AllPairs R (x ∷ xs)
+AllPairs-cons R x xs first later zero zero d low high = absurd (omega arith)
+AllPairs-cons R x xs first later zero (suc j) d low high = All-get_or (R x) xs j d (omega arith) first
+AllPairs-cons R x xs first later (suc i) zero d low high = absurd (omega arith)
+AllPairs-cons R x xs first later (suc i) (suc j) d low high = later i j d (omega arith) (omega arith)
+
+AllPairs-nil : {A : Type 0} (R : A → A → Type 0) → AllPairs R []
+AllPairs-nil R i j d low high = absurd (omega arith)
+
+-- the number of a claim's group, by a list of groups
+abbrev group_in : List ClaimGroup → ClaimNo → Option ℕ
+group_in gs d = option_map (λ g. g.group) (slice_get gs d.0)
+
+-- the claim has a group, whose number is at least this one
+abbrev HasGroup : List ClaimGroup → ℕ → ClaimNo → Type 0
+HasGroup gs low d = (g : ℕ) × (group_in gs d ≡ Some g) × (low ≤ g)
+
+-- the groups are numbered by the first claim of each crossing
+abbrev AreGrouped : List ClaimGroup → ℕ → List BuiltCrossing → Type 0
+AreGrouped gs base xs = (k i : ℕ) → k < length xs → i < claim_count_of (get_or xs k no_crossing) → group_in gs (record { 0 = base + (crossing_claims (take k xs) + i) }) ≡ Some (base + crossing_claims (take k xs))
+
+grouped_later : (gs : List ClaimGroup) (base : ℕ) (x : BuiltCrossing) (xs : List BuiltCrossing) → AreGrouped gs base (x ∷ xs) → AreGrouped gs (base + claim_count_of x) xs
+grouped_later gs base x xs grouped k i known within =
+    ap (λ n. group_in gs (record { 0 = n })) (let e : base + claim_count_of x + (crossing_claims (take k xs) + i) ≡ base + (claim_count_of x + crossing_claims (take k xs) + i) = omega arith in e)
+    ∙ grouped (suc k) i (omega arith) within
+    ∙ ap (λ n. Some n) (let e : base + (claim_count_of x + crossing_claims (take k xs)) ≡ base + claim_count_of x + crossing_claims (take k xs) = omega arith in e)
+
+head_group : (gs : List ClaimGroup) (base : ℕ) (x : BuiltCrossing) (xs : List BuiltCrossing) (c : CellNo) → has_cell x.cells c ≡ true → AreGrouped gs base (map completed (x ∷ xs)) → group_in gs (record { 0 = base + flow_of (completed x) c }) ≡ Some base
+head_group gs base x xs c has grouped =
+    let within : flow_of (completed x) c < claim_count_of (completed x) = subst (λ n. n < claim_count_of (completed x)) (sym (flow_of-completed x c has)) (flow_within x c has) in
+    ap (λ n. group_in gs (record { 0 = n })) (let e : base + flow_of (completed x) c ≡ base + (0 + flow_of (completed x) c) = omega arith in e)
+    ∙ grouped 0 (flow_of (completed x) c) (omega arith) within
+    ∙ ap (λ n. Some n) (let e : base + 0 ≡ base = omega arith in e)
+
+claims_grouped : (gs : List ClaimGroup) (low base : ℕ) (xs : List BuiltCrossing) (c : CellNo) → low ≤ base → AreGrouped gs base (map completed xs) → All (HasGroup gs low) (claims_from base (map completed xs) c)
+claims_grouped gs low base [] c upto grouped = All-nil (HasGroup gs low)
+claims_grouped gs low base (x ∷ xs) c upto grouped =
+    let count : ℕ = claim_count_of (completed x) in
+    let later = claims_grouped gs low (base + count) xs c (omega arith) (grouped_later gs base (completed x) (map completed xs) grouped) in
+    elim (cases_Bool (has_cell x.cells c)) [
+      | inl has ↦
+          subst (λ b. All (HasGroup gs low) (cond b (record { 0 = base + flow_of (completed x) c } ∷ claims_from (base + count) (map completed xs) c) (claims_from (base + count) (map completed xs) c))) (sym has)
+          (All-cons (HasGroup gs low) (record { 0 = base + flow_of (completed x) c }) (claims_from (base + count) (map completed xs) c) (base, head_group gs base x xs c has grouped, upto) later)
+      | inr out ↦ subst (λ b. All (HasGroup gs low) (cond b (record { 0 = base + flow_of (completed x) c } ∷ claims_from (base + count) (map completed xs) c) (claims_from (base + count) (map completed xs) c))) (sym out) later
+    ]
+
+abbrev Apart : List ClaimGroup → ClaimNo → ClaimNo → Type 0
+Apart gs d e = group_in gs d ≢ group_in gs e
+
+apart_from : (gs : List ClaimGroup) (d : ClaimNo) (g low : ℕ) → group_in gs d ≡ Some g → g < low → (e : ClaimNo) → HasGroup gs low e → Apart gs d e
+apart_from gs d g low is below e (h, other, above) = λ same. (let both : Some g ≡ Some h = sym is ∙ same ∙ other in let eq : g ≡ h = cc in omega arith)
+
+claims_apart : (gs : List ClaimGroup) (base : ℕ) (xs : List BuiltCrossing) (c : CellNo) → AreGrouped gs base (map completed xs) → AllPairs (Apart gs) (claims_from base (map completed xs) c)
+claims_apart gs base [] c grouped = AllPairs-nil (Apart gs)
+claims_apart gs base (x ∷ xs) c grouped =
+    let count : ℕ = claim_count_of (completed x) in
+    let next = grouped_later gs base (completed x) (map completed xs) grouped in
+    let later = claims_apart gs (base + count) xs c next in
+    elim (cases_Bool (has_cell x.cells c)) [
+      | inl has ↦
+          subst (λ b. AllPairs (Apart gs) (cond b (record { 0 = base + flow_of (completed x) c } ∷ claims_from (base + count) (map completed xs) c) (claims_from (base + count) (map completed xs) c))) (sym has)
+          (AllPairs-cons (Apart gs) (record { 0 = base + flow_of (completed x) c }) (claims_from (base + count) (map completed xs) c)
+          (All-weaker (HasGroup gs (base + count)) (Apart gs (record { 0 = base + flow_of (completed x) c })) (apart_from gs (record { 0 = base + flow_of (completed x) c }) base (base + count) (head_group gs base x xs c has grouped) (omega arith)) (claims_from (base + count) (map completed xs) c) (claims_grouped gs (base + count) (base + count) xs c (omega arith) next))
+          later)
+      | inr out ↦ subst (λ b. AllPairs (Apart gs) (cond b (record { 0 = base + flow_of (completed x) c } ∷ claims_from (base + count) (map completed xs) c) (claims_from (base + count) (map completed xs) c))) (sym out) later
+    ]
+
+-- claims of one footprint have different groups
+pub footprint_apart : (built : BuiltSite) (c : CellNo) → c.0 < built.cells → AllPairs (Apart (groups_of (completed_site built))) (footprint_in (completed_site built) c)
+footprint_apart built c within =
+    let gs : List ClaimGroup = groups_of (completed_site built) in
+    let grouped : AreGrouped gs built.cells (map completed built.crossings) = λ k i known inside. ap (option_map (λ g. g.group)) (group_behind_cells (completed_site built) k i known inside) in
+    AllPairs-cons (Apart gs) (record { 0 = c.0 }) (claims_from built.cells (map completed built.crossings) c)
+    (All-weaker (HasGroup gs built.cells) (Apart gs (record { 0 = c.0 })) (apart_from gs (record { 0 = c.0 }) c.0 built.cells (ap (option_map (λ g. g.group)) (group_of_cell (completed_site built) c.0 within)) within) (claims_from built.cells (map completed built.crossings) c) (claims_grouped gs built.cells built.cells built.crossings c (omega arith) grouped))
+    (claims_apart gs built.cells built.crossings c grouped)
+
+-- the claims of a footprint are claims of the site, and rise
+pub footprint_known : (built : BuiltSite) (c : CellNo) → c.0 < built.cells → All (λ d. d.0 < claim_total (completed_site built)) (footprint_in (completed_site built) c)
+footprint_known built c within =
+    All-cons (λ (d : ClaimNo). d.0 < claim_total (completed_site built)) (record { 0 = c.0 }) (claims_from built.cells (map completed built.crossings) c) (omega arith) (claims_known built.cells built.crossings c)
+
+pub footprint_in_rises : (built : BuiltSite) (c : CellNo) → c.0 < built.cells → RiseFrom 0 (footprint_in (completed_site built) c)
+footprint_in_rises built c within = (omega arith, claims_rise (c.0 + 1) built.cells built.crossings c (omega arith))
+
+-- the name of a claim of a crossing
+abbrev pub crossing_name : ℕ → List (List CellNo) → ℕ → ClaimName
+crossing_name k flows i = Crossing k (if length flows == 0 then None else Some i)
+
+name_by_flow : (k : ℕ) (flows : List (List CellNo)) (i : ℕ) → i < max 1 (length flows) → slice_get (flow_names k flows) i ≡ Some (crossing_name k flows i)
+name_by_flow k [] zero within = refl
+name_by_flow k [] (suc i) within = absurd (omega arith)
+name_by_flow k (f ∷ fs) i within =
+    let n : ℕ = length (f ∷ fs) in
+    let inside : i < length (numbers_below n) = omega (arith, length-range_with_len 0 n) in
+    slice_get-map (λ j. Crossing k (Some j)) (numbers_below n) i
+    ∙ ap (option_map (λ j. Crossing k (Some j))) (slice_get-get_or (numbers_below n) i 0 inside ∙ ap (λ j. Some j) (get_or-range_with_len 0 n i 0 (omega arith) ∙ zero-add i))
+    ∙ ap (λ b. Some (Crossing k (cond b None (Some i)))) (sym (ne_eqb n 0 (λ e. omega arith)))
+
+length-flow_names : (k : ℕ) (flows : List (List CellNo)) → length (flow_names k flows) ≡ max 1 (length flows)
+length-flow_names k [] = refl
+length-flow_names k (f ∷ fs) = length-map (numbers_below (length (f ∷ fs))) (λ j. Crossing k (Some j)) ∙ length-range_with_len 0 (length (f ∷ fs)) ∙ omega arith
+
+name_of_crossing : (from : ℕ) (xs : List BuiltCrossing) (k i : ℕ) → k < length xs → i < claim_count_of (get_or xs k no_crossing) → slice_get (names_from from xs) (crossing_claims (take k xs) + i) ≡ Some (crossing_name (from + k) (get_or xs k no_crossing).flows i)
+name_of_crossing from [] k i known within = absurd (omega arith)
+name_of_crossing from (x ∷ xs) zero i known within =
+    ap (slice_get (names_from from (x ∷ xs))) (let e : 0 + i ≡ i = omega arith in e)
+    ∙ slice_get_left (flow_names from x.flows) (names_from (from + 1) xs) i (omega (arith, length-flow_names from x.flows))
+    ∙ name_by_flow from x.flows i within
+    ∙ ap (λ n. Some (crossing_name n x.flows i)) (let e : from ≡ from + 0 = omega arith in e)
+name_of_crossing from (x ∷ xs) (suc k) i known within =
+    ap (slice_get (names_from from (x ∷ xs))) (let e : claim_count_of x + crossing_claims (take k xs) + i ≡ claim_count_of x + (crossing_claims (take k xs) + i) = omega arith in e)
+    ∙ slice_get_right (flow_names from x.flows) (names_from (from + 1) xs) (claim_count_of x) (crossing_claims (take k xs) + i) (sym (length-flow_names from x.flows))
+    ∙ name_of_crossing (from + 1) xs k i (omega arith) within
+    ∙ ap (λ n. Some (crossing_name n (get_or xs k no_crossing).flows i)) (let e : from + 1 + k ≡ from + suc k = omega arith in e)
+
+length-cell_names : (n : ℕ) → length (map (λ c. Cell c) (cells_below n)) ≡ n
+length-cell_names n = length-map (cells_below n) (λ c. Cell c) ∙ length-map-range_with_len to_cell 0 n
+
+pub name_of_cell : (built : BuiltSite) (c : ℕ) → c < built.cells → slice_get (names_of built) c ≡ Some (Cell (record { 0 = c }))
+name_of_cell built c within =
+    slice_get_left (map (λ d. Cell d) (cells_below built.cells)) (names_from 0 built.crossings) c (omega (arith, length-cell_names built.cells))
+    ∙ slice_get-map (λ d. Cell d) (cells_below built.cells) c
+    ∙ ap (option_map (λ d. Cell d)) (slice_get-get_or (cells_below built.cells) c no_cell (omega (arith, length-map-range_with_len to_cell 0 built.cells)) ∙ ap (λ d. Some d) (get_or-map-range_with_len to_cell 0 built.cells c c no_cell within (zero-add c)))
+
+pub name_behind_cells : (built : BuiltSite) (k i : ℕ) → k < length built.crossings → i < claim_count_of (get_or built.crossings k no_crossing) → slice_get (names_of built) (built.cells + (crossing_claims (take k built.crossings) + i)) ≡ Some (crossing_name k (get_or built.crossings k no_crossing).flows i)
+name_behind_cells built k i known within =
+    slice_get_right (map (λ d. Cell d) (cells_below built.cells)) (names_from 0 built.crossings) built.cells (crossing_claims (take k built.crossings) + i) (sym (length-cell_names built.cells))
+    ∙ name_of_crossing 0 built.crossings k i known within
+    ∙ ap (λ n. Some (crossing_name n (get_or built.crossings k no_crossing).flows i)) (zero-add k)
+
+-- where a claim stands among those of its crossing
+pub owner_place : (xs : List BuiltCrossing) (claim k : ℕ) → IsOwner xs claim k → claim - crossing_claims (take k xs) < claim_count_of (get_or xs k no_crossing)
+owner_place xs claim k owner = omega (arith, owner.from, owner.upto, crossing_claims_more xs k owner.known)
+
+-- conflict goes both ways
+pub conflict_turned : (groups : List ClaimGroup) (c d : ClaimNo) → in_conflict groups c d ≡ in_conflict groups d c
+conflict_turned groups c d =
+    elim (cases_Bool (in_conflict groups c d)) [
+      | inl holds ↦ holds ∙ sym (conflict_symmetric groups c d holds)
+      | inr fails ↦ fails ∙ sym (false_from_ne_true (in_conflict groups d c) (λ h. false≢true (sym fails ∙ conflict_symmetric groups d c h)))
+    ]

@@ -40,7 +40,8 @@ impl Site {
         ensures count { result ≡ self.now.cells }
         ensures site { IsSite (site_of self.now) }
     {
-        self.built.cell_count()
+        let built = &self.built;
+        built.links.len() as u32
     }
 
     /// The number of crossings.
