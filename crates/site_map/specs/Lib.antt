@@ -1,0 +1,6 @@
+pub mod Cells
+pub mod Crossings
+pub mod Built
+pub mod Claims
+pub mod Refusals
+pub mod Inside
