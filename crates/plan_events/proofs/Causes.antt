@@ -4,7 +4,7 @@ use Rattle.std.proofs.lemmas.Bool.{ltb-false, lt-ltb, le-ltb, le-leb, lt-leb, le
 use Rattle.std.proofs.lemmas.List.{drop_more, drop_all, length-map}
 use Rattle.std.proofs.lemmas.List.FromFn.{length-map-range_with_len}
 use Rattle.std.proofs.lemmas.Iterator.Adapters.{position_from-zero}
-use Rattle.std.specs.Prelude.{nat_lt, nat_le, All, Ok}
+use Rattle.std.specs.Prelude.{nat_lt, nat_le, All}
 use Rattle.std.specs.List.{position_from}
 use Rattle.std.specs.Option.{option_map}
 use Rattle.fleet_base.specs.declared.numbers.CellNo.{CellNo}
@@ -16,7 +16,7 @@ use Rattle.site_map.specs.Cells.{cells_below}
 use Rattle.site_map.specs.Claims.{footprint_in, site_of}
 use Rattle.plan_events.specs.declared.refused.ShapeRefused.{ShapeRefused}
 use Rattle.plan_events.specs.declared.refused.ShapeRefused.TheVariants.{Short, TooLong, UnknownCell, NoLink}
-use Rattle.plan_events.specs.Shapes.{refused_or, shape_cause, IsShape}
+use Rattle.plan_events.specs.Shapes.{shape_cause, IsShape}
 
 -- a site has as many cells as it was built of
 pub cell_count-site_of : (site : BuiltSite) → cell_count (site_of site) ≡ site.cells

@@ -8,7 +8,7 @@ use Rattle.fleet_base.specs.declared.numbers.CellNo.{CellNo}
 use Rattle.fleet_base.specs.declared.numbers.ClaimNo.{ClaimNo}
 use Rattle.fleet_base.specs.declared.numbers.Kind.{Kind}
 use Rattle.fleet_base.specs.declared.numbers.Kind.TheVariants.{Acquire, Move, Release}
-use Rattle.fleet_model.specs.Sites.{Site, acquired, footprint_of, has_claim, needs, step, steps_from, steps, without}
+use Rattle.fleet_model.specs.Sites.{Site, acquired, footprint_of, has_claim, step, steps, without}
 use Rattle.plan_events.proofs.Causes.{no_cell}
 
 -- the steps from the cell before this place on

@@ -1,6 +1,4 @@
-use Rattle.std.proofs.Common.{◌≡◌, ◌+◌, ◌-◌, ◌++◌, sym, ap, ◌∙◌, append_assoc, append-nil, length, None, arith}
-use Rattle.fleet_model.specs.Sites.{steps}
-use Rattle.fleet_model.specs.Calls.{unknown_at}
+use Rattle.std.proofs.Common.{◌≡◌, ◌+◌, ◌-◌, ◌++◌, sym, ap, ◌∙◌, append_assoc, append-nil, None, arith}
 use Rattle.site_map.specs.Claims.{site_of}
 use Rattle.plan_events.specs.Shapes.{shape_cause}
 use Rattle.plan_events.proofs.Causes.{accepted_known, known_at, no_cell}
