@@ -1,0 +1,12 @@
+//! The events of a route: the check of its shape, its expansion, its needs and its rest points; and
+//! the replay of events over holders.
+#![tactic(auto)]
+
+pub mod expansion;
+pub mod laws;
+pub mod refused;
+pub mod rests;
+pub mod shape;
+mod steps;
+#[cfg(test)]
+mod tests;
