@@ -3,7 +3,7 @@ use Rattle.std.proofs.Common.{◌≡◌, ℕ, zero, suc, ◌+◌, ◌<◌, ◌�
 use Rattle.std.specs.FinSet as set
 use Rattle.std.specs.FinSet.{contains-empty}
 use Rattle.std.specs.Ordering.{nat_cmp}
-use Rattle.bit_set.proofs.Members.{contains-insert_nat, contains-remove_nat}
+use Rattle.bit_set.specs.Marks.{contains-insert_nat, contains-remove_nat}
 use Rattle.std.specs.List.{filter, list_any, list_all, range_with_len, All}
 use Rattle.std.proofs.lemmas.Bool.{true≢false, false≢true, eqb-true, eqb-false, eq-eqb, ne_eqb, ltb-true, lt-ltb, cases_Bool, cases_eq, or_parts, or_from, or_left, or_right, or_cases, and_parts, and_from, and_right}
 use Rattle.std.proofs.lemmas.List.{map-append, take_more, append-nil}

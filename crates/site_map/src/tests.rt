@@ -165,3 +165,35 @@ fn refusals_in_order(rt: HostRuntime) {
     assert_eq!(rt; builder.flow(1, &[CellNo(5)]), Err(BuildRefused::Foreign));
     assert_eq!(rt; builder.flow(1, &[d]), Ok(()));
 }
+
+#[test]
+fn full_sites(rt: HostRuntime) {
+    let mut builder = SiteBuilder::new(rt.alloc());
+    for number in 0..1_024u32 {
+        assert_eq!(rt; builder.cell(), Ok(CellNo(number)));
+    }
+    assert_eq!(rt; builder.cell(), Err(BuildRefused::Full));
+    for number in 0..256u32 {
+        assert_eq!(rt; builder.area(&[CellNo(number)]), Ok(number));
+    }
+    assert_eq!(rt; builder.area(&[CellNo(0)]), Err(BuildRefused::Full));
+    for from in 0..1_024u32 {
+        for step in 1..9u32 {
+            let to = CellNo((from + step) % 1_024);
+            assert_eq!(rt; builder.link(CellNo(from), to, step), Ok(()));
+        }
+    }
+    assert_eq!(rt;
+        builder.link(CellNo(0), CellNo(0), 1),
+        Err(BuildRefused::Full)
+    );
+    for number in 0..255u32 {
+        let cells = [CellNo(number), CellNo(number + 256)];
+        assert_eq!(rt; builder.crossing(&cells), Ok(number));
+    }
+    assert_eq!(rt; builder.flow(0, &[CellNo(0)]), Ok(()));
+    assert_eq!(rt; builder.crossing(&[CellNo(0)]), Err(BuildRefused::Full));
+    assert_eq!(rt; builder.flow(1, &[CellNo(1)]), Err(BuildRefused::Full));
+    assert_eq!(rt; builder.flow(1, &[CellNo(257), CellNo(1)]), Ok(()));
+    assert_eq!(rt; builder.finish().claim_count(), 1_280);
+}
