@@ -1,13 +1,9 @@
 -- The numbers of the claims of crossings.
-use Rattle.std.proofs.Common.{◌≡◌, ℕ, zero, suc, ◌+◌, ◌-◌, ◌<◌, ◌≤◌, max, Bool, true, false, cond, not, ◌&&◌, ◌||◌, eqb, ◌⊎◌, inl, inr, List, [], ◌∷◌, ◌++◌, length, map, get_or, set, take, replicate, Option, Some, None, refl, sym, ap, subst, ◌∙◌, arith, slice_index, get_or-set_same, get_or-set_other}
-use Rattle.std.specs.List.{slice_get, position_or_len, prefix_len, list_any, filter, range_with_len}
+use Rattle.std.proofs.Common.{◌≡◌, ℕ, zero, suc, ◌+◌, ◌<◌, ◌≤◌, inl, inr, List, [], ◌∷◌, ◌++◌, length, get_or, set, take, refl, sym, ap, subst, ◌∙◌, arith, slice_index, get_or-set_same, get_or-set_other}
 use Rattle.std.proofs.lemmas.Bool.{cases_lt, cases_eq}
-use Rattle.std.proofs.lemmas.List.{map-append, length-map, take_more}
-use Rattle.fleet_base.specs.declared.numbers.CellNo.{CellNo}
-use Rattle.fleet_base.specs.declared.numbers.ClaimGroup.{ClaimGroup}
-use Rattle.fleet_base.specs.declared.numbers.ClaimNo.{ClaimNo}
+use Rattle.std.proofs.lemmas.List.{take_more}
 use Rattle.site_map.specs.Built.{no_crossing}
-use Rattle.site_map.specs.Crossings.{BuiltCrossing, claim_count_of, completed, crossing_claims}
+use Rattle.site_map.specs.Crossings.{BuiltCrossing, claim_count_of, crossing_claims}
 use Rattle.site_map.specs.Inside.{AreNumbered, IsOwner}
 
 -- the claims of one more crossing

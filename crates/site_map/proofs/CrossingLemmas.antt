@@ -1,5 +1,5 @@
 -- Crossings: the rest, flow lines, and the number of claims.
-use Rattle.std.proofs.Common.{◌≡◌, ℕ, zero, suc, ◌+◌, ◌<◌, ◌≤◌, max, Bool, true, false, cond, not, ◌&&◌, ◌||◌, eqb, ◌⊎◌, inl, inr, List, [], ◌∷◌, ◌++◌, length, refl, sym, ap, subst, ◌∙◌, arith}
+use Rattle.std.proofs.Common.{◌≡◌, suc, ◌+◌, ◌<◌, ◌≤◌, max, Bool, true, false, cond, not, ◌&&◌, ◌||◌, inl, inr, List, [], ◌∷◌, ◌++◌, length, refl, sym, ap, subst, ◌∙◌, arith}
 use Rattle.std.specs.List.{filter, list_any, All}
 use Rattle.std.specs.FinSet as set
 use Rattle.std.specs.Ordering.{nat_cmp}
@@ -9,9 +9,9 @@ use Rattle.std.proofs.lemmas.List.Folds.{list_any-append}
 use Rattle.std.proofs.lemmas.List.Elements.{All-weaker}
 use Rattle.fleet_base.specs.declared.numbers.CellNo.{CellNo}
 use Rattle.site_map.specs.Cells.{has_cell}
-use Rattle.site_map.specs.Crossings.{BuiltCrossing, claim_count_of, completed, flows_with_rest, in_flow, rest_of, with_line}
+use Rattle.site_map.specs.Crossings.{BuiltCrossing, claim_count_of, completed, flows_with_rest, in_flow, with_line}
 use Rattle.site_map.specs.Inside.{IsCrossing}
-use Rattle.site_map.proofs.CellLemmas.{has_each, list_any_agree, list_any_agree_in}
+use Rattle.site_map.proofs.CellLemmas.{has_each, list_any_agree_in}
 
 filter_none : {A : Type 0} (p : A → Bool) (xs : List A) → list_any p xs ≡ false → filter p xs ≡ []
 filter_none p [] none = refl

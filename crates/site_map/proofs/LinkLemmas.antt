@@ -1,5 +1,5 @@
 -- The links of a cell, in order.
-use Rattle.std.proofs.Common.{◌≡◌, ℕ, zero, suc, ◌+◌, ◌<◌, ◌≤◌, Bool, true, false, cond, ◌||◌, eqb, ltb, List, [], ◌∷◌, ◌++◌, length, take, drop, refl, sym, ap, ◌∙◌, arith}
+use Rattle.std.proofs.Common.{◌≡◌, ℕ, suc, ◌+◌, ◌≤◌, Bool, true, false, cond, eqb, ltb, List, [], ◌∷◌, length, refl, ap, ◌∙◌, arith}
 use Rattle.std.specs.List.{insert, list_any, prefix_len, take_while, All}
 use Rattle.std.proofs.lemmas.Bool.{ltb-true, ltb-false, or_parts, eqb-false}
 use Rattle.std.proofs.lemmas.List.Folds.{length-prefix_len}

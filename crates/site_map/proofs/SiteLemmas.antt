@@ -1,8 +1,8 @@
 -- Laws of a site as built: footprints, groups and names.
-use Rattle.std.proofs.Common.{◌≡◌, ℕ, zero, suc, ◌+◌, ◌-◌, ◌<◌, ◌≤◌, max, Bool, true, false, cond, not, ◌&&◌, ◌||◌, eqb, ◌==◌, if◌then◌else◌, ◌≢◌, ◌⊎◌, inl, inr, List, [], ◌∷◌, ◌++◌, length, map, get_or, take, replicate, Option, Some, None, refl, sym, ap, subst, ◌∙◌, arith, zero-add}
-use Rattle.std.specs.List.{filter, list_any, position_or_len, slice_get, range_with_len, find, All, AllPairs, Contains}
+use Rattle.std.proofs.Common.{◌≡◌, ℕ, zero, suc, ◌+◌, ◌-◌, ◌<◌, ◌≤◌, max, Bool, true, false, cond, ◌||◌, eqb, ◌==◌, if◌then◌else◌, ◌≢◌, inl, inr, List, [], ◌∷◌, ◌++◌, length, map, get_or, take, replicate, Option, Some, None, refl, sym, ap, subst, ◌∙◌, arith, zero-add}
+use Rattle.std.specs.List.{list_any, position_or_len, slice_get, find, All, AllPairs, Contains}
 use Rattle.std.specs.Option.{option_map, unwrap_or}
-use Rattle.std.proofs.lemmas.Bool.{cases_Bool, cases_lt, cases_eq, false≢true, true≢false, not_from_false, and_from, or_cases, or_parts, eqb-true, eq-eqb, lt-ltb, ne_eqb, false_from_ne_true}
+use Rattle.std.proofs.lemmas.Bool.{cases_Bool, cases_lt, false≢true, not_from_false, and_from, or_cases, eqb-true, lt-ltb, ne_eqb, false_from_ne_true}
 use Rattle.std.proofs.lemmas.List.{get_or-map, get_or_past, length-append, length-map, length-replicate, length_push}
 use Rattle.std.proofs.lemmas.List.FromFn.{length-map-range_with_len, get_or-map-range_with_len, length-range_with_len, get_or-range_with_len}
 use Rattle.std.proofs.lemmas.List.Elements.{All-nil, All-cons, All-head, All-tail, All-get_or, All-weaker}
@@ -13,7 +13,7 @@ use Rattle.fleet_base.specs.declared.numbers.ClaimNo.{ClaimNo}
 use Rattle.fleet_base.specs.declared.numbers.Link.{Link}
 use Rattle.fleet_base.specs.Lists.{placed, RiseFrom}
 use Rattle.fleet_model.specs.Lists.{numbers_below}
-use Rattle.fleet_model.specs.Sites.{Site, cell_count, footprint_of, in_conflict, link_cost, links_from, IsSite}
+use Rattle.fleet_model.specs.Sites.{footprint_of, in_conflict, link_cost, links_from, IsSite}
 use Rattle.site_map.specs.declared.places.Place.{Place}
 use Rattle.site_map.specs.declared.places.Places.{Places}
 use Rattle.site_map.specs.declared.places.Places.TheVariants.{Free}
@@ -27,9 +27,9 @@ use Rattle.site_map.specs.Claims.{cell_group, claim_total, claims_from, flow_nam
 use Rattle.fleet_base.specs.declared.limits.TheConstants.{MAX_COST}
 use Rattle.site_map.specs.Inside.{AreLinks, IsKept, IsOwner, place_in, places_from, places_list}
 use Rattle.site_map.proofs.CellLemmas.{has_cell-filter, no_cell, some_has, to_cell}
-use Rattle.site_map.proofs.ClaimLemmas.{crossing_claims_front, crossing_claims_more}
+use Rattle.site_map.proofs.ClaimLemmas.{crossing_claims_more}
 use Rattle.site_map.proofs.CrossingLemmas.{claim_count-completed, is_rest}
-use Rattle.site_map.proofs.PlaceLemmas.{has_it, length-places, length-places_list, position_new, position_old, position_past, position_within}
+use Rattle.site_map.proofs.PlaceLemmas.{has_it, length-places_list, position_new, position_old, position_past, position_within}
 
 -- a cell that passes a test is in the rest of its list
 any_has : (p : CellNo → Bool) (cells : List CellNo) (c : CellNo) → has_cell cells c ≡ true → p c ≡ true → list_any p cells ≡ true

@@ -1,5 +1,5 @@
 -- How a site is kept.
-use Rattle.std.specs.Prelude.{◌≡◌, ℕ, ◌+◌, ◌<◌, ◌≤◌, Bool, not, ◌&&◌, ◌==◌, nat_lt, if◌then◌else◌, List, [], ◌∷◌, ◌++◌, map, length, take, Some, None, slice_index, slice_index_or, All}
+use Rattle.std.specs.Prelude.{◌≡◌, ℕ, ◌+◌, ◌<◌, ◌≤◌, Bool, not, ◌&&◌, ◌==◌, if◌then◌else◌, List, [], ◌∷◌, ◌++◌, map, length, take, Some, None, slice_index, slice_index_or, All}
 use Rattle.std.specs.List.{list_any}
 use Rattle.std.specs.Option.{unwrap_or}
 use Rattle.std.specs.FinSet as set
@@ -12,7 +12,7 @@ use Rattle.site_map.specs.declared.places.Place.{Place}
 use Rattle.site_map.specs.declared.places.Places.{Places}
 use Rattle.site_map.specs.declared.places.Places.TheVariants.{Free, One, Two}
 use Rattle.site_map.specs.Cells.{has_cell, CellsRise, LinksRise}
-use Rattle.site_map.specs.Crossings.{BuiltCrossing, claim_count_of, completed, crossing_claims, flow_of, in_flow}
+use Rattle.site_map.specs.Crossings.{BuiltCrossing, completed, crossing_claims, flow_of, in_flow}
 use Rattle.site_map.specs.Built.{BuiltSite, crossing_at, link_total}
 
 -- the places as a list

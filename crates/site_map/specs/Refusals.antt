@@ -1,5 +1,5 @@
 -- When each call of the builder is refused. The first cause that is there counts.
-use Rattle.std.specs.Prelude.{◌≡◌, ℕ, ◌+◌, Bool, not, ◌&&◌, ◌||◌, ◌==◌, nat_lt, nat_le, List, [], ◌∷◌, map, length, Option, Some, None}
+use Rattle.std.specs.Prelude.{◌≡◌, ℕ, Bool, not, ◌&&◌, ◌||◌, ◌==◌, nat_lt, nat_le, List, [], ◌∷◌, map, length, Option, Some, None}
 use Rattle.std.specs.List.{list_any}
 use Rattle.fleet_base.specs.declared.limits.TheConstants.{MAX_CELLS, MAX_CROSSINGS, MAX_CROSSINGS_OF_CELL, MAX_AREAS, MAX_LINKS}
 use Rattle.fleet_base.specs.declared.numbers.CellNo.{CellNo}

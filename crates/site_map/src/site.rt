@@ -3,7 +3,7 @@
 ghost use Rattle.std.specs.Prelude.{◌≡◌, ◌≢◌, ◌<◌, ◌≤◌, length, Some, slice_get, All, AllPairs, IfOk};
 ghost use Rattle.std.specs.Option.{option_map};
 ghost use Rattle.fleet_base.specs.Lists.{RiseFrom};
-ghost use Rattle.fleet_base.specs.declared.limits.TheConstants.{MAX_COST};
+ghost use Rattle.fleet_base.specs.declared.limits.TheConstants.{MAX_CLAIMS, MAX_COST};
 ghost use Rattle.fleet_model.specs.Sites.{exclude, footprint_of, in_conflict, link_cost, links_from, IsSite};
 ghost use Rattle.site_map.specs.Built.{area_at, crossing_at, link_total};
 ghost use Rattle.site_map.specs.Cells.{CellsRise, LinksRise};
@@ -87,6 +87,7 @@ impl Site {
         ensures ascending { RiseFrom 0 result }
         ensures apart { AllPairs (λ c d. group_at (site_of self.now) c ≢ group_at (site_of self.now) d) result }
         ensures known { All (λ c. c.0 < claim_total self.now) result }
+        ensures limit { claim_total self.now ≤ MAX_CLAIMS }
     {
         let built = &self.built;
         let own = ClaimNo(cell.0);

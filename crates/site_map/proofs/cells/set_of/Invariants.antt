@@ -1,7 +1,4 @@
-use Rattle.std.proofs.Common.{◌≡◌, false, take}
-use Rattle.std.specs.FinSet as set
-use Rattle.fleet_base.specs.declared.numbers.CellNo.{CellNo}
-use Rattle.site_map.specs.Cells.{has_cell, has_repeat}
+use Rattle.std.proofs.Common.{take}
 use Rattle.site_map.proofs.CellLemmas.{IsSeen}
 use Rattle.site_map.proofs.cells.set_of.Given as goal
 

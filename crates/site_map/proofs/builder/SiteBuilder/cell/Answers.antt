@@ -1,4 +1,4 @@
-use Rattle.std.proofs.Common.{◌≡◌, ◌++◌, ◌∷◌, [], true, cond, sym, ap, ◌∙◌, arith}
+use Rattle.std.proofs.Common.{◌≡◌, ◌++◌, ◌∷◌, [], true, cond, ap, ◌∙◌, arith}
 use Rattle.std.specs.Result.{is_ok}
 use Rattle.site_map.specs.declared.places.Places.TheVariants.{Free}
 use Rattle.site_map.proofs.BuilderLemmas.{kept_cell}

@@ -1,4 +1,4 @@
-use Rattle.std.proofs.Common.{◌≡◌, ◌<◌, ℕ, List, Bool, true, false, not, ◌||◌, leb, ltb, ◌++◌, ◌∷◌, [], length, map, get_or, Some, None, sym, ap, subst, ◌∙◌, arith}
+use Rattle.std.proofs.Common.{◌≡◌, ℕ, List, Bool, true, not, ◌||◌, leb, ltb, ◌++◌, ◌∷◌, [], length, map, get_or, Some, None, sym, ap, subst, ◌∙◌, arith}
 use Rattle.std.specs.List.{list_any}
 use Rattle.std.proofs.lemmas.Bool.{not_from_true, le-leb, lt-leb}
 use Rattle.fleet_base.specs.declared.numbers.CellNo.{CellNo}

@@ -3,7 +3,6 @@ use Rattle.std.specs.List.{All}
 use Rattle.std.specs.Option.{unwrap_or}
 use Rattle.std.proofs.lemmas.List.Elements.{All-weaker}
 use Rattle.site_map.specs.declared.places.Place.{Place}
-use Rattle.site_map.specs.declared.places.Places.{Places}
 use Rattle.site_map.specs.declared.places.Places.TheVariants.{Free}
 use Rattle.site_map.specs.Built.{BuiltSite, completed_site, no_crossing}
 use Rattle.site_map.specs.Claims.{footprint_in}

@@ -1,4 +1,4 @@
-use Rattle.std.proofs.Common.{◌≡◌, ◌+◌, ◌-◌, ◌<◌, Bool, cond, ℕ, List, Some, None, true, length, map, get_or, take, arith, ap, sym, subst, ◌∙◌}
+use Rattle.std.proofs.Common.{◌≡◌, ◌+◌, ◌-◌, Bool, cond, ℕ, List, Some, None, map, take, arith, ap, sym, subst, ◌∙◌}
 use Rattle.std.specs.List.{slice_get}
 use Rattle.site_map.specs.declared.names.ClaimName.TheVariants.{Cell, Crossing}
 use Rattle.site_map.specs.Built.{BuiltSite, completed_site}

@@ -1,4 +1,4 @@
-use Rattle.std.proofs.Common.{◌≡◌, Option, Some, eqb, ap, sym, ◌∙◌}
+use Rattle.std.proofs.Common.{Option, Some, eqb, ap, sym, ◌∙◌}
 use Rattle.std.specs.List.{slice_get}
 use Rattle.fleet_base.specs.declared.numbers.ClaimGroup.{ClaimGroup}
 use Rattle.fleet_model.specs.Sites.{exclude, in_conflict}

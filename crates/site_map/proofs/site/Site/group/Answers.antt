@@ -1,4 +1,4 @@
-use Rattle.std.proofs.Common.{◌≡◌, ◌+◌, ◌-◌, ◌<◌, ℕ, List, Some, true, length, map, get_or, take, arith, ap, sym, subst, ◌∙◌}
+use Rattle.std.proofs.Common.{◌≡◌, ◌+◌, ◌-◌, ℕ, List, Some, true, map, get_or, take, arith, ap, sym, subst, ◌∙◌}
 use Rattle.std.specs.List.{slice_get}
 use Rattle.site_map.specs.Built.{BuiltSite, completed_site, no_crossing}
 use Rattle.site_map.specs.Claims.{groups_of, is_alone}
