@@ -1,5 +1,9 @@
 // What no clause says: that the calls succeed where memory is ample, and what they print.
-use crate::{MemSink, MemSource, SureSink, SureSource, Taken, WriteFault, read_all, write_text};
+use crate::{
+    MemSink, MemSource, StdSink, StdSource, SureSink, SureSource, Taken, WriteFault, read_all,
+    write_text,
+};
+use std::io;
 use std::test::Fail;
 
 const TEXT: &[u8] = b"link dock_1 dock_2 cost 7\nrobot ant at dock_1\n";
@@ -93,5 +97,34 @@ fn prints_its_errors(rt: HostRuntime) -> Result<(), Fail> {
         format!(in rt.alloc(); "{WriteFault}")?.as_str(),
         "a write failed"
     );
+    Ok(())
+}
+
+// A writer that takes nothing, as that of a full disk.
+#[derive(Drop)]
+struct FullDisk;
+
+impl io::Write for FullDisk {
+    fn write(&mut self, _piece: &[u8]) -> io::Result<usize> {
+        Ok(0)
+    }
+
+    fn flush(&mut self) -> io::Result<()> {
+        Ok(())
+    }
+}
+
+#[test]
+fn reads_and_writes_by_readers_and_writers(rt: HostRuntime) -> Result<(), Fail> {
+    let mut source = StdSource::new(TEXT);
+    let bytes = read_all(rt.alloc(), &mut source, 1_000)?;
+    assert_eq!(rt; bytes.as_slice(), TEXT);
+
+    write_text(&mut StdSink::new(Vec::new(rt.alloc())), TEXT)?;
+    assert_eq!(rt;
+        write_text(&mut StdSink::new(FullDisk), TEXT),
+        Err(WriteFault)
+    );
+    write_text(&mut StdSink::new(FullDisk), b"")?;
     Ok(())
 }
