@@ -9,15 +9,16 @@ use std::alloc::{AllocError, Global};
 
 // For each kind the places of its things among all names, in order.
 #[derive(Drop)]
-pub struct Places {
-    pub cells: Vec<u32>,
-    pub crossings: Vec<u32>,
-    pub areas: Vec<u32>,
-    pub robots: Vec<u32>,
+pub(crate) struct Places {
+    pub(crate) cells: Vec<u32>,
+    pub(crate) crossings: Vec<u32>,
+    pub(crate) areas: Vec<u32>,
+    pub(crate) robots: Vec<u32>,
 }
 
 impl Places {
-    pub fn new(alloc: Global) -> Self
+    // No places of any kind. It takes no memory.
+    pub(crate) fn new(alloc: Global) -> Self
         ensures { (other : Thing) → places_in result other ≡ [] }
     {
         Places {
@@ -29,7 +30,7 @@ impl Places {
     }
 
     // The places of the things of one kind.
-    pub fn of_kind(&self, thing: Thing) -> &[u32]
+    pub(crate) fn of_kind(&self, thing: Thing) -> &[u32]
         ensures { result.now ≡ places_in self.now thing }
     {
         match thing {
@@ -41,7 +42,7 @@ impl Places {
     }
 
     // Adds a place to those of the thing's kind.
-    pub fn push(&mut self, thing: Thing, place: u32) -> Result<(), AllocError>
+    pub(crate) fn push(&mut self, thing: Thing, place: u32) -> Result<(), AllocError>
         ensures ok { OnOk result ((other : Thing) → places_in self.new other
             ≡ (if same_kind other thing then places_in self.old other ++ place ∷ [] else places_in self.old other)) }
         ensures err { OnErr result ((other : Thing) → places_in self.new other ≡ places_in self.old other) }
