@@ -1,4 +1,5 @@
 pub mod Codes
 pub mod Lines
 pub mod Numbers
+pub mod Readings
 pub mod Words
