@@ -1,0 +1,6 @@
+pub mod Commands
+pub mod Gives
+pub mod Keywords
+pub mod Left
+pub mod Reading
+pub mod UsedNames
