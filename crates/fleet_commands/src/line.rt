@@ -1,8 +1,10 @@
 // What a line of commands says.
-ghost use Rattle.std.specs.Prelude.{◌≡◌, ◌<◌, [], ◌∷◌, IfOk, IfSome, Some, All};
+ghost use Rattle.std.specs.Prelude.{◌≡◌, ◌<◌, [], ◌∷◌, if◌then◌else◌, IfOk, IfSome, Some, None, All};
 ghost use Rattle.std.specs.Option.{option_map};
 ghost use Rattle.fleet_names.specs.Names.{count_of};
 ghost use Rattle.fleet_names.specs.Things.{is_cell};
+ghost use Rattle.std.specs.Str.Parse.{digits_value};
+ghost use Rattle.site_lines.specs.Numbers.{is_number};
 ghost use Rattle.site_lines.specs.Words.{words_of};
 ghost use Rattle.fleet_commands.specs.Commands.{IsDeclared, IsDeclaredRequest};
 ghost use Rattle.fleet_commands.specs.Gives.{Tells, Says};
@@ -128,10 +130,20 @@ fn report(words: Words, names: &Names) -> Result<Command, Code>
     ensures declared { IfOk result (IsDeclared names.now) }
 {
     let (robot, number) = words.two()?;
-    let event = read_number(number, 15, 0, u64::MAX).ok().ok_or(Code::C6)?;
+    let event = event_in(number).ok_or(Code::C6)?;
     let robot = robot_named(names, robot).ok_or(Code::C7)?;
     Ok(Command {
         robot,
-        request: Request::Report(EventNo(event)),
+        request: Request::Report(event),
     })
+}
+
+// The event whose number a word says, in 1 to 15 digits.
+fn event_in(word: &[u8]) -> Option<EventNo>
+    ensures { result ≡ (if is_number 15 word.now then Some (record { 0 = digits_value 10 word.now }) else None) }
+{
+    match read_number(word, 15, 0, u64::MAX) {
+        Ok(number) => Some(EventNo(number)),
+        Err(_) => None,
+    }
 }
