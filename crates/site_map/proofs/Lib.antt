@@ -2,6 +2,7 @@ pub mod BuilderLemmas
 pub mod CauseLemmas
 pub mod CellLemmas
 pub mod ClaimLemmas
+pub mod CountLemmas
 pub mod CrossingLemmas
 pub mod LinkLemmas
 pub mod PlaceLemmas

@@ -169,7 +169,7 @@ footprint_at built c within =
     get_or-map (footprint_in built) (cells_below built.cells) c.0 no_cell [] long
     ∙ ap (footprint_in built) (get_or-map-range_with_len to_cell 0 built.cells c.0 c.0 no_cell within (zero-add c.0))
 
-footprint_past : (built : BuiltSite) (c : CellNo) → built.cells ≤ c.0 → footprint_of (site_of built) c ≡ []
+pub footprint_past : (built : BuiltSite) (c : CellNo) → built.cells ≤ c.0 → footprint_of (site_of built) c ≡ []
 unfolding footprint_of
 footprint_past built c past =
     get_or_past (map (footprint_in built) (cells_below built.cells)) c.0 [] (omega (arith, length-footprints built))

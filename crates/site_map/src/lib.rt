@@ -4,6 +4,7 @@
 pub mod builder;
 mod cells;
 mod crossing;
+pub mod goal;
 mod link_list;
 pub mod names;
 mod numbering;

@@ -4,6 +4,7 @@ ghost use Rattle.std.specs.Prelude.{◌≡◌, ◌≢◌, ◌<◌, ◌≤◌, le
 ghost use Rattle.std.specs.Option.{option_map};
 ghost use Rattle.fleet_base.specs.Lists.{RiseFrom};
 ghost use Rattle.fleet_base.specs.declared.limits.TheConstants.{MAX_CLAIMS, MAX_COST};
+ghost use Rattle.fleet_model.specs.Tables.{IsCounted};
 ghost use Rattle.fleet_model.specs.Sites.{exclude, footprint_of, in_conflict, link_cost, links_from, IsSite};
 ghost use Rattle.site_map.specs.Built.{area_at, crossing_at, link_total};
 ghost use Rattle.site_map.specs.Cells.{CellsRise, LinksRise};
@@ -39,6 +40,7 @@ impl Site {
     pub fn cell_count(&self) -> u32
         ensures count { result ≡ self.now.cells }
         ensures site { IsSite (site_of self.now) }
+        ensures counted { IsCounted (site_of self.now) }
     {
         let built = &self.built;
         built.links.len() as u32
@@ -72,6 +74,7 @@ impl Site {
     pub fn claim_count(&self) -> u32
         ensures count { result ≡ claim_total self.now }
         ensures groups { result ≡ length (site_of self.now).groups }
+        ensures limit { result ≤ MAX_CLAIMS }
     {
         let built = &self.built;
         (built.links.len() + built.owners.len()) as u32

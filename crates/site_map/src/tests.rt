@@ -1,6 +1,7 @@
 //! Each call once, with what it must answer.
 
 use crate::builder::SiteBuilder;
+use crate::goal::{Goal, goal_holds};
 use crate::names::ClaimName;
 use crate::refused::BuildRefused;
 use crate::site::Site;
@@ -58,6 +59,8 @@ fn site_is_as_built(rt: HostRuntime) -> Result<(), Fail> {
     assert_eq!(rt; site.cost(CellNo(0), CellNo(2)), Some(5));
     assert_eq!(rt; site.cost(CellNo(2), CellNo(0)), None);
     assert_eq!(rt; site.area_cells(0), [CellNo(0), CellNo(6)].as_slice());
+    assert!(rt; goal_holds(&site, Goal::Area(0), CellNo(6)));
+    assert!(rt; !goal_holds(&site, Goal::Cell(CellNo(1)), CellNo(6)));
     assert_eq!(rt;
         site.crossing_cells(1),
         [CellNo(2), CellNo(3), CellNo(5)].as_slice()
