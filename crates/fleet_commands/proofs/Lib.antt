@@ -1,1 +1,2 @@
+pub mod CellWords
 pub mod EventNumbers

@@ -16,11 +16,10 @@ Gives (Ok commands) said = said ≡ Ok commands.items
 Gives (Err (text.Bad at)) said = said ≡ Err at
 Gives (Err text.NoMemory) said = Unit {0}
 
--- the same within a line, whose number isn't known
-abbrev pub GivesCode : {T : Type 0} → Result T LineRefused → Result T Code → Type 0
-GivesCode (Ok value) said = said ≡ Ok value
-GivesCode (Err (line.Bad code)) said = said ≡ Err code
-GivesCode (Err line.NoMemory) said = Unit {0}
+-- a line's refusal as that of a text, whose line has the number n
+abbrev pub refused_at : ℕ → LineRefused → ReadRefused
+refused_at n (line.Bad code) = text.Bad (record { line = n; code = code })
+refused_at n line.NoMemory = text.NoMemory
 
 -- a value that is said where no row of the table fits, or the least code
 abbrev pub Tells : {T : Type 0} → Result T Code → List Row → Option T → Type 0

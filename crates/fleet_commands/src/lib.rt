@@ -4,6 +4,7 @@
 pub mod command;
 mod keyword;
 mod line;
+pub mod read;
 
 pub mod refused;
 mod used_names;

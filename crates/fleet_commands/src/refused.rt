@@ -32,6 +32,21 @@ pub(crate) enum LineRefused {
     NoMemory,
 }
 
+impl LineRefused {
+    ghost use Rattle.std.specs.Prelude.{◌≡◌};
+    ghost use Rattle.fleet_commands.specs.Gives.{refused_at};
+
+    // The same for a text whose line has this number.
+    pub(crate) fn at(self, line: u32) -> ReadRefused
+        ensures { result ≡ refused_at line self }
+    {
+        match self {
+            LineRefused::Bad(code) => ReadRefused::Bad(At { line, code }),
+            LineRefused::NoMemory => ReadRefused::NoMemory,
+        }
+    }
+}
+
 impl From<Code> for LineRefused {
     ghost use Rattle.std.specs.Prelude.{◌≡◌};
     ghost use Rattle.fleet_commands.specs.declared.refused.LineRefused.TheVariants as line;
