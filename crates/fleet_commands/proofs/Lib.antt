@@ -1,2 +1,3 @@
 pub mod CellWords
 pub mod EventNumbers
+pub mod LineSteps

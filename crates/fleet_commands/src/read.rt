@@ -1,6 +1,7 @@
 //! The commands behind a scenario.
 
-ghost use Rattle.std.specs.Prelude.{◌+◌, ◌-◌, ◌^◌, ◌<◌, ◌≤◌, length, drop, All, IfOk};
+ghost use Rattle.std.specs.Prelude.{◌≡◌, ◌+◌, ◌-◌, ◌^◌, ◌<◌, ◌≤◌, ◌++◌, length, drop, All, IfOk, OnOk, OnErr};
+ghost use Rattle.std.specs.Option.{option_to_list};
 ghost use Rattle.fleet_commands.specs.Commands.{IsDeclared};
 ghost use Rattle.fleet_commands.specs.Gives.{Gives};
 ghost use Rattle.fleet_commands.specs.Reading.{commands_of};
@@ -37,11 +38,20 @@ pub fn read_commands(
     while let Some(line) = line_at(bytes, place) {
         let text = without_return(&bytes[line.start..line.stop]);
         let said = command_in(alloc, text, names).map_err(|refused| refused.at(number))?;
-        if let Some(command) = said {
-            commands.push(command)?;
-        }
+        push_said(&mut commands, said)?;
         number += 1;
         place = line.next;
     }
     Ok(commands)
+}
+
+// Appends the command of a line; a blank line has none.
+fn push_said(commands: &mut Vec<Command>, said: Option<Command>) -> Result<(), ReadRefused>
+    ensures ok { OnOk result (commands.new.items ≡ commands.old.items ++ option_to_list said) }
+    ensures err { OnErr result (result ≡ Err ReadRefused.NoMemory) }
+{
+    if let Some(command) = said {
+        commands.push(command)?;
+    }
+    Ok(())
 }
