@@ -1,4 +1,5 @@
 pub mod Commands
+pub mod Examples
 pub mod Gives
 pub mod Keywords
 pub mod Left

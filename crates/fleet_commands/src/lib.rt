@@ -7,5 +7,6 @@ mod line;
 pub mod read;
 
 pub mod refused;
+pub mod samples;
 mod used_names;
 mod words;
