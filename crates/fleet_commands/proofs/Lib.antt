@@ -1,3 +1,4 @@
 pub mod CellWords
 pub mod EventNumbers
 pub mod LineSteps
+pub mod Texts

@@ -4,4 +4,5 @@ pub mod Gives
 pub mod Keywords
 pub mod Left
 pub mod Reading
+pub mod Texts
 pub mod UsedNames

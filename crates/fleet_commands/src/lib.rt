@@ -3,6 +3,7 @@
 
 pub mod command;
 mod keyword;
+pub mod laws;
 mod line;
 pub mod read;
 

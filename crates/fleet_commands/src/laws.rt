@@ -1,0 +1,33 @@
+//! Laws of texts of commands.
+
+ghost use Rattle.std.specs.Prelude.{◌≡◌, ◌↔◌, ℕ, List, length, Ok, Err};
+ghost use Rattle.fleet_names.specs.Names.{Named, count_of};
+ghost use Rattle.fleet_names.specs.Things.{is_area, is_cell};
+ghost use Rattle.site_lines.specs.declared.fault.At.{At};
+ghost use Rattle.site_map.specs.Built.{BuiltSite};
+ghost use Rattle.site_map.specs.Goals.{IsGoal};
+ghost use Rattle.site_map.specs.declared.goal.Goal.{Goal};
+ghost use Rattle.fleet_commands.specs.Commands.{IsDeclaredGoal};
+ghost use Rattle.fleet_commands.specs.Reading.{commands_of};
+ghost use Rattle.fleet_commands.specs.Texts.{AreSaid, IsFirstBad};
+ghost use Rattle.fleet_commands.specs.declared.command.Command.{Command};
+
+/// A text is accepted exactly where each of its lines is good, and its commands are those that its
+/// lines say, in order.
+pub fn good_texts_are_accepted()
+    ensures { (names : Named) (n : ℕ) (bytes : List ℕ) (commands : List Command) →
+        (commands_of names n bytes ≡ Ok commands) ↔ AreSaid names bytes commands }
+{}
+
+/// A text is refused exactly at its first bad line, with the least code of that line.
+pub fn refusals_name_the_first_bad_line()
+    ensures { (names : Named) (n : ℕ) (bytes : List ℕ) (at : At) →
+        (commands_of names n bytes ≡ Err at) ↔ IsFirstBad names n bytes at }
+{}
+
+/// Where the names are those of a site, a goal that has a name is a goal of the site.
+pub fn declared_goals_are_goals()
+    ensures { (names : Named) (site : BuiltSite) (goal : Goal) →
+        count_of is_cell names ≡ site.cells → count_of is_area names ≡ length site.areas →
+        IsDeclaredGoal names goal → IsGoal site goal }
+{}
