@@ -1,4 +1,5 @@
 pub mod CellWords
 pub mod EventNumbers
 pub mod LineSteps
+pub mod SiteNames
 pub mod Texts

@@ -49,7 +49,7 @@ robot_faults names words = too_few 1 words ∷ too_many 1 words ∷ undeclared (
 
 -- the table of a command, over the words behind it
 abbrev pub faults_behind : Named → Keyword → List (List ℕ) → List Row
-faults_behind names Propose words = too_few 2 words ∷ undeclared (cells_named names (behind words)) ∷ undeclared (robot_named names (first words)) ∷ []
+faults_behind names Propose words = too_few 2 words ∷ undeclared (robot_named names (first words)) ∷ undeclared (cells_named names (behind words)) ∷ []
 faults_behind names Retry words = robot_faults names words
 faults_behind names Cancel words = robot_faults names words
 faults_behind names Withdraw words = robot_faults names words

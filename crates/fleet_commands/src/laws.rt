@@ -1,10 +1,13 @@
 //! Laws of texts of commands.
 
-ghost use Rattle.std.specs.Prelude.{◌≡◌, ◌↔◌, ℕ, List, length, Ok, Err};
+ghost use Rattle.std.specs.Prelude.{◌≡◌, ◌↔◌, ◌<◌, ℕ, All, List, length, None, Ok, Err};
+ghost use Rattle.fleet_base.specs.declared.numbers.CellNo.{CellNo};
+ghost use Rattle.fleet_model.specs.Calls.{unknown_at};
 ghost use Rattle.fleet_names.specs.Names.{Named, count_of};
 ghost use Rattle.fleet_names.specs.Things.{is_area, is_cell};
 ghost use Rattle.site_lines.specs.declared.fault.At.{At};
 ghost use Rattle.site_map.specs.Built.{BuiltSite};
+ghost use Rattle.site_map.specs.Claims.{site_of};
 ghost use Rattle.site_map.specs.Goals.{IsGoal};
 ghost use Rattle.site_map.specs.declared.goal.Goal.{Goal};
 ghost use Rattle.fleet_commands.specs.Commands.{IsDeclaredGoal};
@@ -25,9 +28,13 @@ pub fn refusals_name_the_first_bad_line()
         (commands_of names n bytes ≡ Err at) ↔ IsFirstBad names n bytes at }
 {}
 
-/// Where the names are those of a site, a goal that has a name is a goal of the site.
-pub fn declared_goals_are_goals()
-    ensures { (names : Named) (site : BuiltSite) (goal : Goal) →
+/// Where the names are those of a site, cells that have names are cells of the site, and a goal
+/// that has a name is one of its goals.
+pub fn declared_things_are_of_the_site()
+    ensures cells { (names : Named) (site : BuiltSite) (cells : List CellNo) →
+        count_of is_cell names ≡ site.cells →
+        All (λ c. c.0 < count_of is_cell names) cells → unknown_at (site_of site) cells ≡ None }
+    ensures goal { (names : Named) (site : BuiltSite) (goal : Goal) →
         count_of is_cell names ≡ site.cells → count_of is_area names ≡ length site.areas →
         IsDeclaredGoal names goal → IsGoal site goal }
 {}
