@@ -6,8 +6,9 @@ mod keyword;
 pub mod laws;
 mod line;
 pub mod read;
-
 pub mod refused;
 pub mod samples;
+#[cfg(test)]
+mod tests;
 mod used_names;
 mod words;

@@ -26,4 +26,3 @@ pub returns-in-report : goal.returns-in-report
 returns-in-report c =
     let is : c.args.word.now ≡ codes "report" = text_from_reads c.args.word.now (codes "report") (omega arith) (search rules) in
     rw is refl
-
