@@ -2,7 +2,6 @@ pub mod Commands
 pub mod Examples
 pub mod Gives
 pub mod Keywords
-pub mod Left
 pub mod Reading
 pub mod Texts
 pub mod UsedNames

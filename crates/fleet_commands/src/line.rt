@@ -8,7 +8,6 @@ ghost use Rattle.site_lines.specs.Numbers.{is_number};
 ghost use Rattle.site_lines.specs.Words.{words_of};
 ghost use Rattle.fleet_commands.specs.Commands.{IsDeclared, IsDeclaredRequest};
 ghost use Rattle.fleet_commands.specs.Gives.{Tells, Says};
-ghost use Rattle.fleet_commands.specs.Left.{left};
 ghost use Rattle.fleet_commands.specs.Reading.{first, undeclared, robot_faults, faults_behind, faults_of, command_behind, command_in};
 ghost use Rattle.fleet_commands.specs.UsedNames.{cells_named, robot_named};
 ghost use Rattle.fleet_commands.specs.declared.keyword.Keyword.TheVariants as word;
@@ -57,7 +56,7 @@ fn command_behind(
     words: Words,
     names: &Names,
 ) -> Result<Command, LineRefused>
-    ensures says { Says result (faults_behind names.now keyword (left words.entry)) (command_behind names.now keyword (left words.entry)) }
+    ensures says { Says result (faults_behind names.now keyword words.entry) (command_behind names.now keyword words.entry) }
     ensures declared { IfOk result (IsDeclared names.now) }
 {
     match keyword {
@@ -73,7 +72,7 @@ fn command_behind(
 
 // A robot, then one or more cells.
 fn propose(alloc: Global, mut words: Words, names: &Names) -> Result<Command, LineRefused>
-    ensures says { Says result (faults_behind names.now word.Propose (left words.entry)) (command_behind names.now word.Propose (left words.entry)) }
+    ensures says { Says result (faults_behind names.now word.Propose words.entry) (command_behind names.now word.Propose words.entry) }
     ensures declared { IfOk result (IsDeclared names.now) }
 {
     let robot = words.next().ok_or(Code::C4)?;
@@ -90,7 +89,7 @@ fn propose(alloc: Global, mut words: Words, names: &Names) -> Result<Command, Li
 
 // The route of the cells that the words name, each of them one.
 fn route(alloc: Global, mut words: Words, names: &Names) -> Result<Path, LineRefused>
-    ensures says { Says result (undeclared (cells_named names.now (left words.entry)) ∷ []) (cells_named names.now (left words.entry)) }
+    ensures says { Says result (undeclared (cells_named names.now words.entry) ∷ []) (cells_named names.now words.entry) }
     ensures declared { IfOk result (λ cells. All (λ c. c.0 < count_of is_cell names.now) cells) }
 {
     let mut cells = Vec::new(alloc);
@@ -103,7 +102,7 @@ fn route(alloc: Global, mut words: Words, names: &Names) -> Result<Path, LineRef
 // A robot, and nothing else.
 fn of_robot(request: Request, words: Words, names: &Names) -> Result<Command, Code>
     requires { IsDeclaredRequest names.now request }
-    ensures says { Tells result (robot_faults names.now (left words.entry)) (option_map (λ robot. record { robot = robot; request = request }) (robot_named names.now (first (left words.entry)))) }
+    ensures says { Tells result (robot_faults names.now words.entry) (option_map (λ robot. record { robot = robot; request = request }) (robot_named names.now (first words.entry))) }
     ensures declared { IfOk result (IsDeclared names.now) }
 {
     let robot = robot_named(names, words.one()?).ok_or(Code::C7)?;
@@ -112,7 +111,7 @@ fn of_robot(request: Request, words: Words, names: &Names) -> Result<Command, Co
 
 // A robot, then a cell or an area.
 fn replan(words: Words, names: &Names) -> Result<Command, Code>
-    ensures says { Tells result (faults_behind names.now word.Replan (left words.entry)) (command_behind names.now word.Replan (left words.entry)) }
+    ensures says { Tells result (faults_behind names.now word.Replan words.entry) (command_behind names.now word.Replan words.entry) }
     ensures declared { IfOk result (IsDeclared names.now) }
 {
     let (robot, goal) = words.two()?;
@@ -126,7 +125,7 @@ fn replan(words: Words, names: &Names) -> Result<Command, Code>
 
 // A robot, then the number of an event.
 fn report(words: Words, names: &Names) -> Result<Command, Code>
-    ensures says { Tells result (faults_behind names.now word.Report (left words.entry)) (command_behind names.now word.Report (left words.entry)) }
+    ensures says { Tells result (faults_behind names.now word.Report words.entry) (command_behind names.now word.Report words.entry) }
     ensures declared { IfOk result (IsDeclared names.now) }
 {
     let (robot, number) = words.two()?;
