@@ -1,5 +1,5 @@
 -- The numbers that 15 digits write fit.
-use Rattle.std.proofs.Common.{◌≡◌, nat_le, ◌≢◌, ⊎_elim, ℕ, ◌+◌, ◌-◌, ◌^◌, ◌<◌, ◌≤◌, true, false, List, length, Ok, Err, refl, sym, ◌∙◌, arith, rules}
+use Rattle.std.proofs.Common.{◌≡◌, nat_le, ⊎_elim, ℕ, ◌^◌, ◌<◌, ◌≤◌, true, false, List, length, Ok, Err, arith}
 use Rattle.std.specs.Str.{all_ascii_digits}
 use Rattle.std.specs.Str.Parse.{digits_value}
 use Rattle.std.proofs.lemmas.Str.Parse.{digits_value_short, numerals_by_value, tells_all_ascii_digits}

@@ -1,6 +1,6 @@
 -- Cells with names are cells of the site.
-use Rattle.std.proofs.Common.{◌≡◌, ℕ, ◌+◌, ◌<◌, ◌≤◌, suc, false, nat_le, List, [], ◌∷◌, length, None, All, map, refl, ap, ◌∙◌, one-add, arith, rules}
-use Rattle.std.specs.Prelude.{not, position, nat_lt}
+use Rattle.std.proofs.Common.{◌≡◌, ℕ, ◌<◌, suc, false, nat_le, List, [], ◌∷◌, length, None, All, refl, ap, ◌∙◌, one-add, arith}
+use Rattle.std.specs.Prelude.{nat_lt}
 use Rattle.std.specs.List.{position_or_len}
 use Rattle.std.proofs.lemmas.Bool.Decides.{nat_tests}
 use Rattle.std.proofs.lemmas.List.{length-map}

@@ -1,6 +1,5 @@
 -- What commands ask for.
-use Rattle.std.specs.Prelude.{ℕ, ◌<◌, List, All}
-use Rattle.fleet_base.specs.declared.numbers.CellNo.{CellNo}
+use Rattle.std.specs.Prelude.{ℕ, ◌<◌, All}
 use Rattle.fleet_model.specs.Calls.{Call}
 use Rattle.fleet_model.specs.Calls as call
 use Rattle.fleet_names.specs.Names.{Named, count_of}

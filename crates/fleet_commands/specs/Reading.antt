@@ -1,5 +1,5 @@
 -- What the lines of commands say.
-use Rattle.std.specs.Prelude.{ℕ, nat_lt, Bool, true, not, List, [], ◌∷◌, ◌++◌, length, Option, Some, None, Result, Ok, Err, option_and_then}
+use Rattle.std.specs.Prelude.{ℕ, nat_lt, true, not, List, [], ◌∷◌, ◌++◌, length, Option, Some, None, Result, Ok, Err, option_and_then}
 use Rattle.std.specs.Option.{is_none, option_map, option_to_list}
 use Rattle.std.specs.Str.Parse.{digits_value}
 use Rattle.fleet_names.specs.Names.{Named}

@@ -1,4 +1,4 @@
-use Rattle.std.proofs.Common.{arith, rules}
+use Rattle.std.proofs.Common.{arith}
 use Rattle.std.proofs.lemmas.Grind.{common_steps}
 use Rattle.fleet_commands.proofs.CellWords.{count_named}
 use Rattle.fleet_commands.proofs.line.propose.Goals as goal

@@ -1,5 +1,4 @@
-use Rattle.std.proofs.Common.{◌≡◌, Ok, length, take, drop, slice_range, subst, sym, All, ◌∙◌, arith, rules}
-use Rattle.std.specs.Prelude.{IfSome}
+use Rattle.std.proofs.Common.{◌≡◌, Ok, drop, slice_range, subst, sym, All, ◌∙◌, arith, rules}
 use Rattle.site_lines.specs.Lines.{lines_of}
 use Rattle.fleet_commands.specs.Commands.{IsDeclared}
 use Rattle.fleet_commands.proofs.LineSteps.{step_input, declared_more}
