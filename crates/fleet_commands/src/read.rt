@@ -5,6 +5,8 @@ ghost use Rattle.std.specs.Option.{option_to_list};
 ghost use Rattle.fleet_commands.specs.Commands.{IsDeclared};
 ghost use Rattle.fleet_commands.specs.Gives.{Gives};
 ghost use Rattle.fleet_commands.specs.Reading.{commands_of};
+ghost use Rattle.fleet_commands.specs.Texts.{AreSaid, IsFirstBad};
+ghost use Rattle.site_lines.specs.declared.fault.At.{At};
 
 use crate::command::Command;
 use crate::line::command_in;
@@ -30,6 +32,14 @@ pub fn read_commands(
     // A line takes a byte at least, so line numbers fit.
     requires numbered { first_line + (length bytes.now - from) < 2 ^ 32 }
     ensures is { Gives result (commands_of names.now first_line (drop from bytes.now)) }
+
+    // Each line is good, and the commands are those that the lines say, in order.
+    ensures said { IfOk result (λ commands. AreSaid names.now (drop from bytes.now) commands.items) }
+
+    // The first line that isn't good, with the least of its codes.
+    ensures bad { (at : At) → result ≡ Err (ReadRefused.Bad at) → IsFirstBad names.now first_line (drop from bytes.now) at }
+
+    // The robots, cells and goals of the commands have names.
     ensures declared { IfOk result (λ commands. All (IsDeclared names.now) commands.items) }
 {
     let mut commands = Vec::new(alloc);
@@ -51,7 +61,7 @@ fn push_said(commands: &mut Vec<Command>, said: Option<Command>) -> Result<(), R
     ensures err { OnErr result (result ≡ Err ReadRefused.NoMemory) }
 {
     if let Some(command) = said {
-        commands.push(command)?;
+        commands.push(command).map_err(|_| ReadRefused::NoMemory)?;
     }
     Ok(())
 }

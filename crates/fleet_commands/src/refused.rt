@@ -12,17 +12,6 @@ pub enum ReadRefused {
     NoMemory,
 }
 
-impl<T: Drop> From<AllocFailed<T>> for ReadRefused {
-    ghost use Rattle.std.specs.Prelude.{◌≡◌};
-    ghost use Rattle.fleet_commands.specs.declared.refused.ReadRefused.TheVariants as text;
-
-    ghost from_gives = { λ _ refused. refused ≡ text.NoMemory };
-
-    fn from(_error: AllocFailed<T>) -> Self {
-        ReadRefused::NoMemory
-    }
-}
-
 // Why a line isn't read.
 #[derive(Clone, Copy, Debug, PartialEq, Eq)]
 pub(crate) enum LineRefused {

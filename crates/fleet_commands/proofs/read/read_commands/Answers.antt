@@ -1,7 +1,10 @@
 use Rattle.std.proofs.Common.{◌≡◌, Ok, drop, slice_range, subst, sym, All, ◌∙◌, arith, rules}
 use Rattle.site_lines.specs.Lines.{lines_of}
 use Rattle.fleet_commands.specs.Commands.{IsDeclared}
+use Rattle.fleet_commands.specs.Gives.{Gives}
+use Rattle.fleet_commands.specs.Reading.{commands_of}
 use Rattle.fleet_commands.proofs.LineSteps.{step_input, declared_more}
+use Rattle.fleet_commands.proofs.Texts.{accepted_is_said, refused_is_bad}
 use Rattle.fleet_commands.proofs.read.read_commands.Goals as goal
 
 pub loop-line-preserved : goal.loop-line-preserved
@@ -21,3 +24,13 @@ loop-line-preserved c =
       from = omega arith;
       count = omega arith;
     }
+
+pub returns-clause-said : goal.returns-clause-said
+returns-clause-said c =
+    let accepted : commands_of c.args.names.now c.args.first_line (drop c.args.from c.args.bytes.now) ≡ Ok c.loop-line.commands.items = search rules in
+    accepted_is_said c.args.names.now c.args.first_line (drop c.args.from c.args.bytes.now) c.loop-line.commands.items accepted
+
+pub returns-in_err-said-clause-bad : goal.returns-in_err-said-clause-bad
+returns-in_err-said-clause-bad c = λ at is.
+    let gives : Gives c.from_residual.result (commands_of c.args.names.now c.args.first_line (drop c.args.from c.args.bytes.now)) = search rules in
+    refused_is_bad c.args.names.now c.args.first_line (drop c.args.from c.args.bytes.now) at (rw is at gives)
