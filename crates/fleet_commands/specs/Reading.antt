@@ -30,16 +30,19 @@ behind (word ∷ words) = words
 abbrev pub second : List (List ℕ) → List ℕ
 second words = first (behind words)
 
--- the rows of the codes: fewer words than these, more words, a word in the place of a number that isn't 1 to 15 digits, and a word that names nothing in its place
+-- fewer words than n
 abbrev pub too_few : ℕ → List (List ℕ) → Row
 too_few n words = record { fits = nat_lt (length words) n; code = C4 }
 
+-- more words than n
 abbrev pub too_many : ℕ → List (List ℕ) → Row
 too_many n words = record { fits = nat_lt n (length words); code = C5 }
 
+-- a word in the place of a number that isn't 1 to 15 digits
 abbrev pub no_number : List ℕ → Row
 no_number word = record { fits = not (is_number 15 word); code = C6 }
 
+-- words that name nothing in their place: one isn't declared, or is of another kind
 abbrev pub undeclared : {T : Type 0} → Option T → Row
 undeclared named = record { fits = is_none named; code = C7 }
 
@@ -57,6 +60,7 @@ faults_behind names Replan words = too_few 2 words ∷ too_many 2 words ∷ unde
 faults_behind names Report words = too_few 2 words ∷ too_many 2 words ∷ no_number (second words) ∷ undeclared (robot_named names (first words)) ∷ []
 faults_behind names Look words = robot_faults names words
 
+-- the table behind a first word, which begins a command or none
 abbrev pub keyword_faults : Named → Option Keyword → List (List ℕ) → List Row
 keyword_faults names None words = record { fits = true; code = C3 } ∷ []
 keyword_faults names (Some keyword) words = faults_behind names keyword words
@@ -83,6 +87,7 @@ request_of names Replan words = option_map (λ goal. request.Replan goal) (goal_
 request_of names Report words = Some (request.Report (record { 0 = digits_value 10 (second words) }))
 request_of names Look words = Some request.Look
 
+-- the command of a keyword and the words behind it
 abbrev pub command_behind : Named → Keyword → List (List ℕ) → Option Command
 command_behind names keyword words = option_and_then (λ r. option_map (λ q. record { robot = r; request = q }) (request_of names keyword words)) (robot_named names (first words))
 
@@ -91,6 +96,7 @@ abbrev pub command_in : Named → List (List ℕ) → Option Command
 command_in names [] = None
 command_in names (word ∷ words) = option_and_then (λ keyword. command_behind names keyword words) (keyword_of word)
 
+-- the value, unless there is a code
 abbrev pub unless : {T : Type 0} → Option Code → T → Result T Code
 unless (Some code) value = Err code
 unless None value = Ok value

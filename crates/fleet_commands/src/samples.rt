@@ -6,7 +6,9 @@
 ghost use Rattle.std.specs.Prelude.{◌≡◌, ◌≢◌, ◌<◌, ◌≤◌, ℕ, List, [], ◌∷◌, ◌++◌, length, codes, Some, Ok};
 ghost use Rattle.fleet_names.specs.Names.{Named};
 ghost use Rattle.site_lines.specs.Readings.{least_code};
-ghost use Rattle.fleet_commands.specs.Examples.{said, asks, cells, bad};
+ghost use Rattle.fleet_model.specs.Calls as call;
+ghost use Rattle.fleet_commands.specs.Commands.{call_of};
+ghost use Rattle.fleet_commands.specs.Examples.{said, asks, cells, bad, junction_site};
 ghost use Rattle.fleet_commands.specs.Reading.{faults_of};
 
 use crate::command::Request;
@@ -23,6 +25,18 @@ pub fn commands()
     ensures replan_area { said (codes "replan r1 yard") ≡ Ok (asks 0 (Request.Replan (Goal.Area 0)) ∷ []) }
     ensures report { said (codes "report r1 000000000000017") ≡ Ok (asks 0 (Request.Report (record { 0 = 17 })) ∷ []) }
     ensures look { said (codes "look r2") ≡ Ok (asks 1 Request.Look ∷ []) }
+{}
+
+/// The call that each command is, with its robot. The goal of a replan is a cell or an area's cells.
+pub fn calls()
+    ensures propose { call_of junction_site (asks 1 (Request.Propose (cells (0 ∷ 1 ∷ [])))) ≡ (1, call.Propose (cells (0 ∷ 1 ∷ []))) }
+    ensures retry { call_of junction_site (asks 0 Request.Retry) ≡ (0, call.Retry) }
+    ensures cancel { call_of junction_site (asks 0 Request.Cancel) ≡ (0, call.Cancel) }
+    ensures withdraw { call_of junction_site (asks 0 Request.Withdraw) ≡ (0, call.Withdraw) }
+    ensures replan_cell { call_of junction_site (asks 0 (Request.Replan (Goal.Cell (record { 0 = 2 })))) ≡ (0, call.Replan (cells (2 ∷ []))) }
+    ensures replan_area { call_of junction_site (asks 0 (Request.Replan (Goal.Area 0))) ≡ (0, call.Replan (cells (1 ∷ 3 ∷ []))) }
+    ensures report { call_of junction_site (asks 0 (Request.Report (record { 0 = 7 }))) ≡ (0, call.Report (record { 0 = 7 })) }
+    ensures look { call_of junction_site (asks 1 Request.Look) ≡ (1, call.LookAt) }
 {}
 
 /// Lines are read in order; blank ones and comments say nothing, and are counted.
