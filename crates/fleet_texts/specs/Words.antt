@@ -26,6 +26,10 @@ abbrev pub spaced : List (List ℕ) → List ℕ
 spaced [] = []
 spaced (word ∷ words) = word ++ behind words
 
+-- lines, each with a line feed behind it
+abbrev pub lines_text : List (List ℕ) → List ℕ
+lines_text lines = flat_map (λ line. line ++ 10 ∷ []) lines
+
 -- the name of a thing; no bytes where it has none
 unfoldable pub name_text : Named → Thing → List ℕ
 name_text names thing = unwrap_or (name_of names thing) []

@@ -4,5 +4,6 @@
 //! text is then empty.
 #![tactic(auto)]
 
+pub mod journal;
 mod pushing;
 pub mod words;
