@@ -1,2 +1,4 @@
+pub mod Answers
+pub mod StateTexts
 pub mod Texts
 pub mod Words

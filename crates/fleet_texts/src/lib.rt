@@ -4,6 +4,8 @@
 //! text is then empty.
 #![tactic(auto)]
 
+pub mod answers;
 pub mod journal;
 mod pushing;
+pub mod state;
 pub mod words;
