@@ -7,5 +7,6 @@
 pub mod answers;
 pub mod journal;
 mod pushing;
+pub mod samples;
 pub mod state;
 pub mod words;
