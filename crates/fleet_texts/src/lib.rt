@@ -6,7 +6,9 @@
 
 pub mod answers;
 pub mod journal;
-mod pushing;
+pub mod pushing;
 pub mod samples;
 pub mod state;
+#[cfg(test)]
+mod tests;
 pub mod words;
