@@ -1,3 +1,5 @@
+pub mod EndedLines
 pub mod Lists
 pub mod Numbers
 pub mod Shapes
+pub mod Steps

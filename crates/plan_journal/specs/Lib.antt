@@ -1,3 +1,4 @@
 pub mod Entries
 pub mod Gives
+pub mod Left
 pub mod Reading
