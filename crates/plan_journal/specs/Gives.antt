@@ -1,5 +1,5 @@
 -- What calls of the reader give, unless memory runs out.
-use Rattle.std.specs.Prelude.{◌≡◌, Result, Ok, Err}
+use Rattle.std.specs.Prelude.{◌≡◌, ℕ, Result, Ok, Err}
 use Rattle.site_lines.specs.declared.fault.At.{At}
 use Rattle.site_lines.specs.declared.fault.Code.{Code}
 use Rattle.plan_journal.specs.declared.lines.LineRefused.{LineRefused}
@@ -24,3 +24,8 @@ abbrev pub GivesLine : {A B : Type 0} → (A → B) → Result A LineRefused →
 GivesLine view (Ok value) read = read ≡ Ok (view value)
 GivesLine view (Err (line.Bad code)) read = read ≡ Err code
 GivesLine view (Err line.NoMemory) read = Unit {0}
+
+-- why a journal isn't read whose line of this number isn't
+abbrev pub refused_at : ℕ → LineRefused → ReadJournalRefused
+refused_at number (line.Bad code) = journal.Bad (record { line = number; code = code })
+refused_at number line.NoMemory = journal.NoMemory

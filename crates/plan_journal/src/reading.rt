@@ -1,13 +1,14 @@
 //! The reader of a journal.
 
-ghost use Rattle.std.specs.Prelude.{◌≡◌, ◌+◌, ◌-◌, ◌^◌, ◌<◌, ◌≤◌, [], ◌∷◌, length, drop, slice_range, Ok, Err, MatchOption, IfSome, MatchResult, IfOk};
+ghost use Rattle.std.specs.Prelude.{◌≡◌, ◌+◌, ◌-◌, ◌^◌, ◌<◌, ◌≤◌, [], ◌∷◌, length, drop, slice_range, codes, Ok, Err, if◌then◌else◌, MatchOption, IfSome, MatchResult, IfOk};
 ghost use Rattle.std.specs.List.{list_any};
+ghost use Rattle.std.specs.Str.{bytes_eq};
+ghost use Rattle.site_lines.specs.declared.fault.Code.TheVariants.{J3};
 ghost use Rattle.fleet_names.specs.Names.{Named, count_of};
 ghost use Rattle.fleet_names.specs.Things.{is_robot};
 ghost use Rattle.plan_journal.specs.Entries.{line_of};
-ghost use Rattle.plan_journal.specs.Gives.{Gives, GivesLine};
+ghost use Rattle.plan_journal.specs.Gives.{Gives, GivesLine, refused_at};
 ghost use Rattle.plan_journal.specs.Left.{left};
-ghost use Rattle.plan_journal.specs.declared.reading.ReadJournalRefused.TheVariants.{Bad};
 ghost use Rattle.plan_journal.specs.Reading.{checked, ended_lines, is_odd, journal_of, parts_of};
 
 use crate::lines::{LineRefused, line_of};
@@ -58,6 +59,7 @@ pub enum ReadJournalRefused {
 
 impl From<At> for ReadJournalRefused {
     ghost use Rattle.plan_journal.specs.declared.reading.ReadJournalRefused.TheVariants.{Bad};
+
     ghost from_gives = { λ at refused. refused ≡ Bad at };
 
     fn from(at: At) -> Self {
@@ -130,14 +132,22 @@ fn header_end(bytes: &[u8]) -> Result<usize, At>
     let Some(stop) = line_end(bytes, 0) else {
         return Err(first_line(Code::J9));
     };
-    let line = &bytes[..stop];
-    if let Err(code) = check_line(line) {
-        return Err(first_line(code));
+    match check_header(&bytes[..stop]) {
+        Ok(()) => Ok(stop + 1),
+        Err(code) => Err(first_line(code)),
     }
-    if line != b"journal 1".as_slice() {
-        return Err(first_line(Code::J3));
+}
+
+// Whether a line is the header.
+fn check_header(line: &[u8]) -> Result<(), Code>
+    ensures { result ≡ checked line.now (if bytes_eq line.now (codes "journal 1") then Ok tt else Err J3) }
+{
+    check_line(line)?;
+    if line == b"journal 1".as_slice() {
+        Ok(())
+    } else {
+        Err(Code::J3)
     }
-    Ok(stop + 1)
 }
 
 // A fault of the first line.
@@ -177,18 +187,20 @@ fn read_entries(
                     lines: lines + 1,
                 });
             }
-            Err(LineRefused::Bad(code)) => return Err(bad(lines + 1, code)),
-            Err(LineRefused::NoMemory) => return Err(ReadJournalRefused::NoMemory),
+            Err(refused) => return Err(refused_at(lines + 1, refused)),
         }
         lines += 1;
         at = stop + 1;
     }
-    Err(bad(lines + 1, Code::J9))
+    Err(refused_at(lines + 1, LineRefused::Bad(Code::J9)))
 }
 
-// A bad line.
-fn bad(line: u32, code: Code) -> ReadJournalRefused
-    ensures { result ≡ Bad (record { line = line; code = code }) }
+// Why a journal isn't read whose line of this number isn't.
+fn refused_at(line: u32, refused: LineRefused) -> ReadJournalRefused
+    ensures { result ≡ refused_at line refused }
 {
-    ReadJournalRefused::Bad(At { line, code })
+    match refused {
+        LineRefused::Bad(code) => ReadJournalRefused::Bad(At { line, code }),
+        LineRefused::NoMemory => ReadJournalRefused::NoMemory,
+    }
 }
