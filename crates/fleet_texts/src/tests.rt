@@ -27,9 +27,13 @@ use std::alloc::{AllocError, Global};
 use std::test::Fail;
 
 const A: CellNo = CellNo(0);
+
 const B: CellNo = CellNo(1);
+
 const C: CellNo = CellNo(2);
+
 const R1: RobotNo = RobotNo(0);
+
 const R2: RobotNo = RobotNo(1);
 
 // Cells a to d, the crossing x, and two robots.
@@ -126,7 +130,8 @@ fn each_entry_has_its_line(rt: HostRuntime) -> Result<(), Fail> {
     Ok(())
 }
 
-const JOURNAL: &str = "journal 1\nmerged r1 1 a b\ndeferred r2 2 r2 r1 b a\nretried r2 1\ncanceled r1\nwithdrawn r1 6 c\nreplanned r1 1 c\nreported r1 1\nend\n";
+const JOURNAL: &str =
+    "journal 1\nmerged r1 1 a b\ndeferred r2 2 r2 r1 b a\nretried r2 1\ncanceled r1\nwithdrawn r1 6 c\nreplanned r1 1 c\nreported r1 1\nend\n";
 
 #[test]
 fn a_journal_has_a_line_for_each_entry(rt: HostRuntime) -> Result<(), Fail> {
@@ -174,7 +179,8 @@ fn push_state(text: &mut Vec<u8>, names: &Names, site: &Site) -> Result<(), NoMe
     push_end(text)
 }
 
-const STATE: &str = "state 1\nentries 9\nnext 10\nrobot r2 at a end b\nholds a x:0\npending b c\nevent 8 acquire b\nevent 8 move a b\nevent 8 release x:0\nend\n";
+const STATE: &str =
+    "state 1\nentries 9\nnext 10\nrobot r2 at a end b\nholds a x:0\npending b c\nevent 8 acquire b\nevent 8 move a b\nevent 8 release x:0\nend\n";
 
 #[test]
 fn a_state_has_its_lines(rt: HostRuntime) -> Result<(), Fail> {
@@ -219,7 +225,8 @@ fn push_looks(text: &mut Vec<u8>, names: &Names, site: &Site) -> Result<(), NoMe
     Ok(())
 }
 
-const LOOKS: &str = "look at c end a left 7 next waits 10 on 8 pending blocked x:1 r1 cycle r2 r1\nlook at c end a left 7 next ready 10 move a b pending free\nlook at c end a left 7 next none pending none\n";
+const LOOKS: &str =
+    "look at c end a left 7 next waits 10 on 8 pending blocked x:1 r1 cycle r2 r1\nlook at c end a left 7 next ready 10 move a b pending free\nlook at c end a left 7 next none pending none\n";
 
 #[test]
 fn a_look_shows_what_is_next_and_pending(rt: HostRuntime) -> Result<(), Fail> {
@@ -296,7 +303,8 @@ fn push_other_refusals(text: &mut Vec<u8>, names: &Names, site: &Site) -> Result
     push_replan_refused(text, &ReplanRefused::NoDetour)
 }
 
-const REFUSALS: &str = "refused pending\nrefused short\nrefused long\nrefused no link 1\nrefused start a\nrefused full\nrefused next 1\nrefused next none\nrefused early 6\nstill x:1 r1 cycle r2 r1\nrefused no pending\nrefused nothing\nrefused at goal\nrefused no detour";
+const REFUSALS: &str =
+    "refused pending\nrefused short\nrefused long\nrefused no link 1\nrefused start a\nrefused full\nrefused next 1\nrefused next none\nrefused early 6\nstill x:1 r1 cycle r2 r1\nrefused no pending\nrefused nothing\nrefused at goal\nrefused no detour";
 
 #[test]
 fn refusals_have_their_lines(rt: HostRuntime) -> Result<(), Fail> {

@@ -140,12 +140,7 @@ pub(crate) fn push_claim_word(
 }
 
 /// Appends the kind of an event, as ` acquire CLAIM`, with a space before each word.
-pub fn push_kind(
-    text: &mut Vec<u8>,
-    names: &Names,
-    site: &Site,
-    kind: Kind,
-) -> Result<(), NoMemory>
+pub fn push_kind(text: &mut Vec<u8>, names: &Names, site: &Site, kind: Kind) -> Result<(), NoMemory>
     ensures ok { OnOk result (text.new.items ≡ text.old.items ++ behind (kind_words names.now site.now kind)) }
     ensures err { OnErr result (text.new.items ≡ []) }
 {

@@ -44,15 +44,15 @@ module _ (names : Named) (bytes : List ℕ) (entries : List Entry) (at lines : �
   pub one_more : (entry : Entry) → said names entries line ≡ Ok (Some entry) → left names bytes entries at lines ≡ left names bytes (entries ++ entry ∷ []) next (lines + 1)
   unfolding left
   one_more entry says =
-    rw (is, says) (ap (λ used. read_from (read_line names) read_all (lines + 1 + 1) (Among (record { entries = entries ++ entry ∷ []; used = used; lines = lines + 1 })) (ended_lines (drop next bytes))) (sym place))
+      rw (is, says) (ap (λ used. read_from (read_line names) read_all (lines + 1 + 1) (Among (record { entries = entries ++ entry ∷ []; used = used; lines = lines + 1 })) (ended_lines (drop next bytes))) (sym place))
 
   pub at_end : said names entries line ≡ Ok None → left names bytes entries at lines ≡ Ok (record { entries = entries; used = next; lines = lines + 1 })
   unfolding left
   at_end says =
-    rw (is, says)
-    (ended_stays names (lines + 1 + 1) (with_line (record { entries = entries; used = at; lines = lines }) line []) (ended_lines (drop next bytes))
-    ∙ ap (λ es. Ok (record { entries = es; used = at + (length line + 1); lines = lines + 1 })) (append-nil entries)
-    ∙ ap (λ used. Ok (record { entries = entries; used = used; lines = lines + 1 })) (sym place))
+      rw (is, says)
+      (ended_stays names (lines + 1 + 1) (with_line (record { entries = entries; used = at; lines = lines }) line []) (ended_lines (drop next bytes))
+      ∙ ap (λ es. Ok (record { entries = es; used = at + (length line + 1); lines = lines + 1 })) (append-nil entries)
+      ∙ ap (λ used. Ok (record { entries = entries; used = used; lines = lines + 1 })) (sym place))
 
   pub at_fault : (code : Code) → said names entries line ≡ Err code → left names bytes entries at lines ≡ Err (record { line = lines + 1; code = code })
   unfolding left
@@ -96,7 +96,7 @@ place_behind : (bytes : List ℕ) (at stop : ℕ) → at ≤ stop → stop < len
 place_behind bytes at stop low high = simp (length-take, length-drop) (omega arith)
 
 module _ (names : Named) (bytes : List ℕ) (entries : List Entry) (at lines stop count : ℕ) (whole : Result Front At) (counted : count ≡ length entries) (low : at ≤ stop) (high : stop < length bytes)
-  (is : ended_lines (drop at bytes) ≡ slice_range bytes at stop ∷ ended_lines (drop (stop + 1) bytes)) (so_far : left names bytes entries at lines ≡ whole) where
+    (is : ended_lines (drop at bytes) ≡ slice_range bytes at stop ∷ ended_lines (drop (stop + 1) bytes)) (so_far : left names bytes entries at lines ≡ whole) where
   pub read_more : (entry : Entry) → checked (slice_range bytes at stop) (line_of names (leb 1000000 count) (parts_of (slice_range bytes at stop))) ≡ Ok (Some entry) → left names bytes (entries ++ entry ∷ []) (stop + 1) (lines + 1) ≡ whole
   read_more entry says = sym (one_more names bytes entries at lines (slice_range bytes at stop) (stop + 1) is (place_behind bytes at stop low high) entry (rw counted at says)) ∙ so_far
 

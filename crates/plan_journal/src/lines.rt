@@ -9,7 +9,9 @@ ghost use Rattle.site_lines.specs.declared.fault.Code.TheVariants.{J7};
 ghost use Rattle.plan_journal.specs.Entries.{judged, rows_of, cells_of, robots_of, is_plain_number, is_number_to, event_in, is_cell, cell_in, is_robot, robot_in, route_line, event_line, deferred_line, deferred_by, canceled_line, withdrawn_line, end_line, merged, replanned, retried, reported, behind_keyword, line_of};
 ghost use Rattle.plan_journal.specs.Gives.{GivesLine};
 
-use crate::words::{Keyword, cell_named, has_empty, keyword_of, number_to, plain_number, robot_named};
+use crate::words::{
+    Keyword, cell_named, has_empty, keyword_of, number_to, plain_number, robot_named,
+};
 use fleet_base::entries::{Act, Entry};
 use fleet_base::limits::{MAX_CAP, MAX_ROBOTS};
 use fleet_base::numbers::{CellNo, EventNo, RobotNo};
@@ -36,6 +38,7 @@ pub enum LineRefused {
 
 impl From<Code> for LineRefused {
     ghost use Rattle.plan_journal.specs.declared.lines.LineRefused.TheVariants.{Bad};
+
     ghost from_gives = { λ code refused. refused ≡ Bad code };
 
     fn from(code: Code) -> Self {
@@ -45,6 +48,7 @@ impl From<Code> for LineRefused {
 
 impl From<NoMemory> for LineRefused {
     ghost use Rattle.plan_journal.specs.declared.lines.LineRefused.TheVariants.{NoMemory};
+
     ghost from_gives = { λ _ refused. refused ≡ NoMemory };
 
     fn from(_error: NoMemory) -> Self {
@@ -54,6 +58,7 @@ impl From<NoMemory> for LineRefused {
 
 impl From<AllocError> for LineRefused {
     ghost use Rattle.plan_journal.specs.declared.lines.LineRefused.TheVariants.{NoMemory};
+
     ghost from_gives = { λ _ refused. refused ≡ NoMemory };
 
     fn from(_error: AllocError) -> Self {
@@ -178,7 +183,15 @@ fn route_line(
 {
     match words {
         [robot, first, _, ..] => {
-            route_by(alloc, names, full, has_empty(words), robot, first, &words[2..])
+            route_by(
+                alloc,
+                names,
+                full,
+                has_empty(words),
+                robot,
+                first,
+                &words[2..],
+            )
         }
         _ => Err(LineRefused::Bad(Code::J5)),
     }
@@ -253,7 +266,15 @@ fn deferred_line(
         [robot, count, ..] => {
             // The number of robots is read before the words are judged.
             let count = number_to(MAX_CYCLE, count)? as usize;
-            deferred_by(alloc, names, full, has_empty(words), robot, count, &words[2..])
+            deferred_by(
+                alloc,
+                names,
+                full,
+                has_empty(words),
+                robot,
+                count,
+                &words[2..],
+            )
         }
         _ => Err(LineRefused::Bad(Code::J5)),
     }
