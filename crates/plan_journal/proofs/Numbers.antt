@@ -3,8 +3,9 @@ use Rattle.std.proofs.Common.{◌≡◌, ⊎_elim, ℕ, ◌≤◌, ◌<◌, ◌^
 use Rattle.std.specs.Fmt.{decimal}
 use Rattle.std.specs.Str.{all_ascii_digits}
 use Rattle.std.specs.Str.Parse.{digits_value}
-use Rattle.std.proofs.lemmas.Bool.{cases_Bool, and_parts, and_from, and_left, leb-true, le-leb}
+use Rattle.std.proofs.lemmas.Bool.{cases_Bool, and_parts, and_from, and_left, leb-true, le-leb, or_cases, eqb-true, eq-eqb, not_from_true, false≢true}
 use Rattle.std.proofs.lemmas.Str.Parse.{IsNumeralModel, numerals_by_value, digits_value_short}
+use Rattle.std.proofs.lemmas.Fmt.{decimal-digits_value}
 use Rattle.site_lines.specs.Numbers.{is_number, number_of}
 use Rattle.site_lines.specs.declared.number.NumberRefused.{NumberRefused}
 use Rattle.plan_journal.specs.Entries.{is_plain_number}
@@ -31,3 +32,16 @@ refused_number word refused is = ⊎_elim (λ holds. let told = told_number word
 
 pub not_plain : (word : List ℕ) → is_number 15 word ≡ false → is_plain_number word ≡ false
 not_plain word fails = and_left (is_number 15 word) (eqb (length word) 1 || not (eqb (get_or word 0 0) 48)) fails
+
+-- without a leading zero a number is written as it is printed
+no_zero : (word : List ℕ) → eqb (length word) 1 || not (eqb (get_or word 0 0) 48) ≡ true → get_or word 0 0 ≡ 48 → length word ≡ 1
+no_zero word is zero =
+    ⊎_elim (λ one. eqb-true (length word) 1 one) (λ other. absurd (false≢true (sym (not_from_true (eqb (get_or word 0 0) 48) (eq-eqb (get_or word 0 0) 48 zero)) ∙ other))) (or_cases (eqb (length word) 1) (not (eqb (get_or word 0 0) 48)) is)
+
+pub plain_decimal : (word : List ℕ) → is_plain_number word ≡ true → decimal (digits_value 10 word) ≡ word
+plain_decimal word is =
+    let parts = and_parts (is_number 15 word) (eqb (length word) 1 || not (eqb (get_or word 0 0) 48)) is in
+    let digits = and_parts (leb 1 (length word) && leb (length word) 15) (all_ascii_digits word) parts.0 in
+    let some = leb-true 1 (length word) (and_parts (leb 1 (length word)) (leb (length word) 15) digits.0).0 in
+    let small = small_number word parts.0 in
+    decimal-digits_value own word digits.1 (omega arith) (no_zero word parts.1) (omega arith)
