@@ -1,3 +1,4 @@
+pub mod Accepted
 pub mod EndedLines
 pub mod Lists
 pub mod Naming

@@ -36,7 +36,7 @@ abbrev pub said : Named → List Entry → List ℕ → Result (Option Entry) Co
 said names entries line = checked line (line_of names (is_full entries) (parts_of line))
 
 -- nothing behind the end is looked at
-ended_stays : (names : Named) (n : ℕ) (front : Front) (lines : List (List ℕ)) → read_from (read_line names) read_all n (Ended front) lines ≡ Ok front
+pub ended_stays : (names : Named) (n : ℕ) (front : Front) (lines : List (List ℕ)) → read_from (read_line names) read_all n (Ended front) lines ≡ Ok front
 ended_stays names n front [] = refl
 ended_stays names n front (line ∷ lines) = ended_stays names (n + 1) front lines
 
