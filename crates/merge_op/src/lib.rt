@@ -4,9 +4,6 @@
 
 pub mod blockers;
 pub mod merging;
-<<<<<<< HEAD
-=======
 #[cfg(test)]
 mod tests;
->>>>>>> 0af01465a3af995286971e7f7f7022b43d26d6c0
 pub mod withdrawal;
