@@ -4,4 +4,6 @@
 
 pub mod blockers;
 pub mod merging;
+#[cfg(test)]
+mod tests;
 pub mod withdrawal;

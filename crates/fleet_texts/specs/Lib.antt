@@ -1,0 +1,5 @@
+pub mod Answers
+pub mod Samples
+pub mod StateTexts
+pub mod Texts
+pub mod Words
