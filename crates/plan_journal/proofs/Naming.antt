@@ -11,7 +11,7 @@ use Rattle.fleet_texts.specs.Words.{name_text, cell_text, robot_text}
 use Rattle.plan_journal.specs.Entries.{robot_number, cell_number, is_robot, is_cell, robot_in, cell_in}
 use Rattle.plan_journal.specs.Printable.{IsRobot, IsCell}
 
-text_is : (names : Named) (found : Thing) (word : List ℕ) → name_of names found ≡ Some word → name_text names found ≡ word
+pub text_is : (names : Named) (found : Thing) (word : List ℕ) → name_of names found ≡ Some word → name_text names found ≡ word
 unfolding name_text
 text_is names found word is = ap (λ o. unwrap_or o []) is
 

@@ -10,7 +10,7 @@ use Rattle.site_lines.specs.Numbers.{is_number, number_of}
 use Rattle.site_lines.specs.declared.number.NumberRefused.{NumberRefused}
 use Rattle.plan_journal.specs.Entries.{is_plain_number}
 
-own : IsNumeralModel (λ ds. all_ascii_digits ds ≡ true) (digits_value 10)
+pub own : IsNumeralModel (λ ds. all_ascii_digits ds ≡ true) (digits_value 10)
 own = numerals_by_value _ (search rules)
 
 -- 15 digits are at most so much
