@@ -1,25 +1,25 @@
 -- An accepted text begins with the printed text of its entries.
-use Rattle.std.proofs.Common.{◌≡◌, ⊎_elim, ℕ, ◌+◌, ◌≤◌, ltb, Bool, true, false, cond, List, [], ◌∷◌, ◌++◌, length, map, take, drop, Option, Some, None, Result, Ok, Err, refl, sym, ap, subst, ◌∙◌, append_assoc, arith}
+use Rattle.std.proofs.Common.{◌≡◌, ⊎_elim, ℕ, ◌+◌, ◌≤◌, Bool, true, false, cond, List, [], ◌∷◌, ◌++◌, length, map, Option, Some, None, Result, Ok, Err, refl, sym, ap, subst, ◌∙◌, append_assoc, arith}
 use Rattle.std.specs.Prelude.{codes}
 use Rattle.std.specs.List.{list_any, AllByRecursion}
 use Rattle.std.specs.Str.{bytes_eq}
 use Rattle.std.proofs.lemmas.Bool.{cases_Bool, eqb-true, ltb-false}
-use Rattle.std.proofs.lemmas.List.{append-nil, length-append, take_at}
+use Rattle.std.proofs.lemmas.List.{take_at}
 use Rattle.std.proofs.lemmas.List.Concat.{flat_map-append}
 use Rattle.std.proofs.lemmas.Slice.Eq.{bytes_eq-Decides}
 use Rattle.fleet_base.specs.declared.entries.Entry.{Entry}
 use Rattle.fleet_names.specs.Names.{Named, AreDeclared}
 use Rattle.fleet_texts.specs.Words.{spaced, lines_text}
-use Rattle.fleet_texts.specs.Texts.{entry_text, entry_words, journal_lines, journal_text}
+use Rattle.fleet_texts.specs.Texts.{entry_text, journal_text}
 use Rattle.site_lines.specs.Lines.{is_feed, is_too_long}
 use Rattle.site_lines.specs.Readings.{onward, read_from}
-use Rattle.site_lines.specs.declared.fault.At.{At}
 use Rattle.site_lines.specs.declared.fault.Code.{Code}
 use Rattle.site_lines.specs.declared.fault.Code.TheVariants.{J1, J2, J3}
 use Rattle.plan_journal.specs.Entries.{line_of}
 use Rattle.plan_journal.specs.Printable.{IsPrintable, IsPrintedFront}
 use Rattle.plan_journal.specs.Reading.{Front, Progress, Begun, Among, Ended, checked, is_odd, parts_of, onto_line, ended_lines, is_full, with_line, no_front, header_line, behind_line, read_line, read_all, journal_of}
-use Rattle.plan_journal.proofs.Printed.{IsSpelled, IsToldLine, line_told, spaced_parts}
+use Rattle.plan_journal.proofs.Lists.{length-line}
+use Rattle.plan_journal.proofs.Printed.{IsToldLine, line_told, spaced_parts}
 use Rattle.plan_journal.proofs.Steps.{ended_stays, said}
 
 -- what a line that is judged further tells
@@ -70,9 +70,6 @@ at_last names n before front line lines last is =
       count = sym (ap (λ (f : Front). f.lines) same);
       printable = tt;
     }
-
-length-line : (line : List ℕ) (lines : List (List ℕ)) → length (lines_text (line ∷ lines)) ≡ length line + 1 + length (lines_text lines)
-length-line line lines = length-append (line ++ 10 ∷ []) (lines_text lines) ∙ ap (λ n. n + length (lines_text lines)) (length-append line (10 ∷ []))
 
 one_accepted : (names : Named) (before front : Front) (line : List ℕ) (lines : List (List ℕ)) (entry : Entry) → line ≡ entry_text names entry → IsPrintable names entry → IsAccepted names (with_line before line (entry ∷ [])) front lines
     → IsAccepted names before front (line ∷ lines)

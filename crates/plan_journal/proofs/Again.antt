@@ -1,13 +1,11 @@
 -- A printed journal is read again.
-use Rattle.std.proofs.Common.{◌≡◌, ℕ, ◌+◌, ◌-◌, ◌<◌, ◌≤◌, ◌&&◌, ◌||◌, leb, ltb, Bool, true, false, cond, List, [], ◌∷◌, ◌++◌, length, map, take, drop, Option, Some, None, Result, Ok, Err, refl, sym, ap, subst, ◌∙◌, append_assoc, arith}
+use Rattle.std.proofs.Common.{◌≡◌, ℕ, ◌+◌, ◌<◌, ◌≤◌, ◌&&◌, ◌||◌, leb, Bool, true, false, List, [], ◌∷◌, ◌++◌, length, map, take, drop, Some, Result, Ok, refl, sym, ap, subst, ◌∙◌, append_assoc, arith}
 use Rattle.std.specs.Prelude.{codes}
 use Rattle.std.specs.Fmt.{decimal}
-use Rattle.std.specs.List.{list_all, list_any, AllByRecursion}
-use Rattle.std.specs.Option.{unwrap_or, is_some}
+use Rattle.std.specs.List.{list_all, AllByRecursion}
 use Rattle.std.specs.Str.Parse.{digits_value}
 use Rattle.std.proofs.lemmas.Bool.{and_from, le-leb, le-ltb, lt-leb}
-use Rattle.std.proofs.lemmas.List.{append-nil, length-append, length-map, take_at, drop_at}
-use Rattle.std.proofs.lemmas.List.Concat.{flat_map-append}
+use Rattle.std.proofs.lemmas.List.{length-append, length-map, take_at, drop_at}
 use Rattle.fleet_base.specs.declared.entries.Act.{Act}
 use Rattle.fleet_base.specs.declared.entries.Act.TheVariants.{Merged, Deferred, Retried, Canceled, Withdrawn, Replanned, Reported}
 use Rattle.fleet_base.specs.declared.entries.Entry.{Entry}
@@ -17,16 +15,16 @@ use Rattle.fleet_base.specs.declared.numbers.RobotNo.{RobotNo}
 use Rattle.fleet_names.specs.declared.thing.Thing.{Thing}
 use Rattle.fleet_names.specs.declared.thing.Thing.TheVariants as thing
 use Rattle.fleet_names.specs.Things.{number_of, same_kind}
-use Rattle.fleet_names.specs.Names.{Named, thing_of, name_of, count_of, AreDeclared}
+use Rattle.fleet_names.specs.Names.{Named, thing_of, count_of, AreDeclared}
 use Rattle.fleet_names.proofs.Finding.{at_place, named_at}
 use Rattle.fleet_texts.specs.Words.{spaced, lines_text, name_text, cell_text, robot_text}
-use Rattle.fleet_texts.specs.Texts.{act_word, detail_words, entry_words, entry_text, journal_lines, journal_text}
-use Rattle.site_lines.specs.Readings.{onward, read_from}
+use Rattle.fleet_texts.specs.Texts.{act_word, detail_words, entry_words, entry_text, journal_text}
+use Rattle.site_lines.specs.Readings.{read_from}
 use Rattle.site_lines.specs.declared.fault.At.{At}
-use Rattle.site_lines.specs.declared.fault.Code.{Code}
-use Rattle.plan_journal.specs.Entries.{robot_number, cell_number, is_robot, is_cell, robot_in, cell_in, event_in, has_empty, judged, rows_of, is_plain_number, is_number_to, route_line, event_line, deferred_by, deferred_line, canceled_line, withdrawn_line, line_of}
+use Rattle.plan_journal.specs.Entries.{is_robot, is_cell, robot_in, cell_in, event_in, has_empty, judged, rows_of, is_plain_number, is_number_to, route_line, event_line, deferred_by, deferred_line, canceled_line, withdrawn_line, line_of}
 use Rattle.plan_journal.specs.Printable.{IsRobot, IsCell, IsShort, IsNamedRoute, IsPrintableAct, IsPrintable}
-use Rattle.plan_journal.specs.Reading.{Front, Progress, Begun, Among, Ended, checked, is_odd, parts_of, ended_lines, is_full, with_line, no_front, read_line, read_all, journal_of}
+use Rattle.plan_journal.specs.Reading.{Front, Begun, Among, ended_lines, with_line, no_front, read_line, read_all, journal_of}
+use Rattle.plan_journal.proofs.Lists.{length-line}
 use Rattle.plan_journal.proofs.Naming.{text_is}
 use Rattle.plan_journal.proofs.Spelling.{IsWord, AreWords, ArePlain, both_words, plain_spaced, none_odd, plain_line, parts_again, none_empty, number_word, number_value, number_plain, name_word}
 use Rattle.plan_journal.proofs.Steps.{ended_stays, said}
@@ -43,52 +41,38 @@ text_of names t declared known =
     let text : at.name ≡ name_text names t = sym (text_is names t at.name at.named) in
     record { word = subst IsWord text (name_word at.name named.name_ok); found = subst (λ (name : List ℕ). thing_of names name ≡ Some t) text named.found }
 
+-- what is read of the text of a known thing of one kind
+pub record IsRead {A : Type 0} (text : A → List ℕ) (of : List ℕ → A) (is : List ℕ → Bool) (x : A) : Type 0 where
+  pub word : IsWord (text x)
+  pub test : is (text x) ≡ true
+  pub back : of (text x) ≡ x
+
+pub record AreRead {A : Type 0} (text : A → List ℕ) (of : List ℕ → A) (is : List ℕ → Bool) (xs : List A) : Type 0 where
+  pub words : AreWords (map text xs)
+  pub test : list_all is (map text xs) ≡ true
+  pub back : map of (map text xs) ≡ xs
+
+read_each : {A : Type 0} (text : A → List ℕ) (of : List ℕ → A) (is : List ℕ → Bool) (known : A → Type 0) → ((x : A) → known x → IsRead text of is x) → (xs : List A) → AllByRecursion known xs → AreRead text of is xs
+read_each text of is known each [] all = record { words = tt; test = refl; back = refl }
+read_each text of is known each (x ∷ xs) all =
+    let first = each x all.0 in
+    let rest = read_each text of is known each xs all.1 in
+    record { words = (first.word, rest.words); test = rw (first.test, rest.test) refl; back = rw (first.back, rest.back) refl }
+
 -- robots and cells
-pub record IsReadRobot (names : Named) (robot : RobotNo) : Type 0 where
-  pub word : IsWord (robot_text names robot)
-  pub is : is_robot names (robot_text names robot) ≡ true
-  pub back : robot_in names (robot_text names robot) ≡ robot
+read_robot : (names : Named) (robot : RobotNo) → AreDeclared names → IsRobot names robot → IsRead (robot_text names) (robot_in names) (is_robot names) robot
+read_robot names robot declared known = let text = text_of names (thing.Robot robot.0) declared known in record { word = text.word; test = rw text.found refl; back = rw text.found refl }
 
-read_robot : (names : Named) (robot : RobotNo) → AreDeclared names → IsRobot names robot → IsReadRobot names robot
-read_robot names robot declared known =
-    let text = text_of names (thing.Robot robot.0) declared known in
-    record { word = text.word; is = rw text.found refl; back = rw text.found refl }
+read_cell : (names : Named) (cell : CellNo) → AreDeclared names → IsCell names cell → IsRead (cell_text names) (cell_in names) (is_cell names) cell
+read_cell names cell declared known = let text = text_of names (thing.Cell cell.0) declared known in record { word = text.word; test = rw text.found refl; back = rw text.found refl }
 
-pub record IsReadCell (names : Named) (cell : CellNo) : Type 0 where
-  pub word : IsWord (cell_text names cell)
-  pub is : is_cell names (cell_text names cell) ≡ true
-  pub back : cell_in names (cell_text names cell) ≡ cell
+read_robots : (names : Named) (robots : List RobotNo) → AreDeclared names → AllByRecursion (IsRobot names) robots → AreRead (robot_text names) (robot_in names) (is_robot names) robots
+read_robots names robots declared known = read_each (robot_text names) (robot_in names) (is_robot names) (IsRobot names) (λ robot h. read_robot names robot declared h) robots known
 
-read_cell : (names : Named) (cell : CellNo) → AreDeclared names → IsCell names cell → IsReadCell names cell
-read_cell names cell declared known =
-    let text = text_of names (thing.Cell cell.0) declared known in
-    record { word = text.word; is = rw text.found refl; back = rw text.found refl }
+read_cells : (names : Named) (cells : List CellNo) → AreDeclared names → AllByRecursion (IsCell names) cells → AreRead (cell_text names) (cell_in names) (is_cell names) cells
+read_cells names cells declared known = read_each (cell_text names) (cell_in names) (is_cell names) (IsCell names) (λ cell h. read_cell names cell declared h) cells known
 
-pub record AreReadRobots (names : Named) (robots : List RobotNo) : Type 0 where
-  pub words : AreWords (map (robot_text names) robots)
-  pub are : list_all (is_robot names) (map (robot_text names) robots) ≡ true
-  pub back : map (robot_in names) (map (robot_text names) robots) ≡ robots
-
-read_robots : (names : Named) (robots : List RobotNo) → AreDeclared names → AllByRecursion (IsRobot names) robots → AreReadRobots names robots
-read_robots names [] declared known = record { words = tt; are = refl; back = refl }
-read_robots names (r ∷ rs) declared known =
-    let first = read_robot names r declared known.0 in
-    let rest = read_robots names rs declared known.1 in
-    record { words = (first.word, rest.words); are = rw (first.is, rest.are) refl; back = rw (first.back, rest.back) refl }
-
-pub record AreReadCells (names : Named) (cells : List CellNo) : Type 0 where
-  pub words : AreWords (map (cell_text names) cells)
-  pub are : list_all (is_cell names) (map (cell_text names) cells) ≡ true
-  pub back : map (cell_in names) (map (cell_text names) cells) ≡ cells
-
-read_cells : (names : Named) (cells : List CellNo) → AreDeclared names → AllByRecursion (IsCell names) cells → AreReadCells names cells
-read_cells names [] declared known = record { words = tt; are = refl; back = refl }
-read_cells names (c ∷ cs) declared known =
-    let first = read_cell names c declared known.0 in
-    let rest = read_cells names cs declared known.1 in
-    record { words = (first.word, rest.words); are = rw (first.is, rest.are) refl; back = rw (first.back, rest.back) refl }
-
--- a table that no row of fits
+-- a table that no row fits
 passes : {A : Type 0} (empty numbers names : Bool) (value told : A) → empty ≡ false → numbers ≡ true → names ≡ true → value ≡ told → judged (rows_of empty numbers names false) value ≡ Ok told
 passes empty numbers names value told a b c is = rw (a, b, c) (ap (λ v. Ok v) is)
 
@@ -103,23 +87,25 @@ route_again names robot first [] declared known short named = let some = named.0
 route_again names robot first (cell ∷ cells) declared known short named =
     let by_robot = read_robot names robot declared known in
     let by_cells = read_cells names (cell ∷ cells) declared named.1 in
-    let words : AreWords (robot_text names robot ∷ decimal first.0 ∷ map (cell_text names) (cell ∷ cells)) = (by_robot.word, (number_word first.0 short, by_cells.words)) in
-    (words,
+    let words : AreWords (robot_text names robot ∷ decimal first.0 ∷ map (cell_text names) (cell ∷ cells)) = (by_robot.word, (number_word first.0 short, by_cells.words)) in (
+      words,
       passes (has_empty (robot_text names robot ∷ decimal first.0 ∷ map (cell_text names) (cell ∷ cells))) (is_plain_number (decimal first.0)) (is_robot names (robot_text names robot) && list_all (is_cell names) (map (cell_text names) (cell ∷ cells)))
-      (record { robot = robot_in names (robot_text names robot); first = event_in (decimal first.0); route = map (cell_in names) (map (cell_text names) (cell ∷ cells)) })
-      (record { robot = robot; first = first; route = cell ∷ cells })
-      (none_empty (robot_text names robot ∷ decimal first.0 ∷ map (cell_text names) (cell ∷ cells)) words) (number_plain first.0 short) (and_from (is_robot names (robot_text names robot)) (list_all (is_cell names) (map (cell_text names) (cell ∷ cells))) by_robot.is by_cells.are)
-      (rw (by_robot.back, number_value first.0 short, by_cells.back) refl))
+          (record { robot = robot_in names (robot_text names robot); first = event_in (decimal first.0); route = map (cell_in names) (map (cell_text names) (cell ∷ cells)) })
+          (record { robot = robot; first = first; route = cell ∷ cells })
+          (none_empty (robot_text names robot ∷ decimal first.0 ∷ map (cell_text names) (cell ∷ cells)) words) (number_plain first.0 short) (and_from (is_robot names (robot_text names robot)) (list_all (is_cell names) (map (cell_text names) (cell ∷ cells))) by_robot.test by_cells.test)
+          (rw (by_robot.back, number_value first.0 short, by_cells.back) refl),
+    )
 
 event_again : (names : Named) (robot : RobotNo) (event : EventNo) → AreDeclared names → IsRobot names robot → IsShort event
     → AreWords (robot_text names robot ∷ decimal event.0 ∷ []) × (event_line names false (robot_text names robot ∷ decimal event.0 ∷ []) ≡ Ok (record { robot = robot; event = event }))
 event_again names robot event declared known short =
     let by_robot = read_robot names robot declared known in
-    let words : AreWords (robot_text names robot ∷ decimal event.0 ∷ []) = (by_robot.word, (number_word event.0 short, tt)) in
-    (words,
+    let words : AreWords (robot_text names robot ∷ decimal event.0 ∷ []) = (by_robot.word, (number_word event.0 short, tt)) in (
+      words,
       passes (has_empty (robot_text names robot ∷ decimal event.0 ∷ [])) (is_plain_number (decimal event.0)) (is_robot names (robot_text names robot))
-      (record { robot = robot_in names (robot_text names robot); event = event_in (decimal event.0) }) (record { robot = robot; event = event })
-      (none_empty (robot_text names robot ∷ decimal event.0 ∷ []) words) (number_plain event.0 short) by_robot.is (rw (by_robot.back, number_value event.0 short) refl))
+          (record { robot = robot_in names (robot_text names robot); event = event_in (decimal event.0) }) (record { robot = robot; event = event })
+          (none_empty (robot_text names robot ∷ decimal event.0 ∷ []) words) (number_plain event.0 short) by_robot.test (rw (by_robot.back, number_value event.0 short) refl),
+    )
 
 number_to_plain : (limit n : ℕ) → n ≤ limit → n ≤ 999999999999999 → is_number_to limit (decimal n) ≡ true
 unfolding is_number_to
@@ -131,20 +117,22 @@ withdrawn_again names robot removed end declared known few at =
     let by_robot = read_robot names robot declared known in
     let by_cell = read_cell names end declared at in
     let small : removed ≤ 999999999999999 = omega arith in
-    let words : AreWords (robot_text names robot ∷ decimal removed ∷ cell_text names end ∷ []) = (by_robot.word, (number_word removed small, (by_cell.word, tt))) in
-    (words,
+    let words : AreWords (robot_text names robot ∷ decimal removed ∷ cell_text names end ∷ []) = (by_robot.word, (number_word removed small, (by_cell.word, tt))) in (
+      words,
       passes (has_empty (robot_text names robot ∷ decimal removed ∷ cell_text names end ∷ [])) (is_number_to 1000000 (decimal removed)) (is_robot names (robot_text names robot) && is_cell names (cell_text names end))
-      (record { robot = robot_in names (robot_text names robot); act = Withdrawn (digits_value 10 (decimal removed)) (cell_in names (cell_text names end)) }) (record { robot = robot; act = Withdrawn removed end })
-      (none_empty (robot_text names robot ∷ decimal removed ∷ cell_text names end ∷ []) words) (number_to_plain 1000000 removed few small) (and_from (is_robot names (robot_text names robot)) (is_cell names (cell_text names end)) by_robot.is by_cell.is)
-      (rw (by_robot.back, number_value removed small, by_cell.back) refl))
+          (record { robot = robot_in names (robot_text names robot); act = Withdrawn (digits_value 10 (decimal removed)) (cell_in names (cell_text names end)) }) (record { robot = robot; act = Withdrawn removed end })
+          (none_empty (robot_text names robot ∷ decimal removed ∷ cell_text names end ∷ []) words) (number_to_plain 1000000 removed few small) (and_from (is_robot names (robot_text names robot)) (is_cell names (cell_text names end)) by_robot.test by_cell.test)
+          (rw (by_robot.back, number_value removed small, by_cell.back) refl),
+    )
 
 canceled_again : (names : Named) (robot : RobotNo) → AreDeclared names → IsRobot names robot → AreWords (robot_text names robot ∷ []) × (canceled_line names false (robot_text names robot ∷ []) ≡ Ok (record { robot = robot; act = Canceled }))
 canceled_again names robot declared known =
     let by_robot = read_robot names robot declared known in
-    let words : AreWords (robot_text names robot ∷ []) = (by_robot.word, tt) in
-    (words,
+    let words : AreWords (robot_text names robot ∷ []) = (by_robot.word, tt) in (
+      words,
       passes (has_empty (robot_text names robot ∷ [])) true (is_robot names (robot_text names robot)) (record { robot = robot_in names (robot_text names robot); act = Canceled }) (record { robot = robot; act = Canceled })
-      (none_empty (robot_text names robot ∷ []) words) refl by_robot.is (rw by_robot.back refl))
+          (none_empty (robot_text names robot ∷ []) words) refl by_robot.test (rw by_robot.back refl),
+    )
 
 -- the cycle and the cells of a deferral
 deferred_by_again : (names : Named) (robot : RobotNo) (route : List CellNo) (cycle : List RobotNo) (others : List (List ℕ)) → AreDeclared names → IsRobot names robot → IsNamedRoute names route → AllByRecursion (IsRobot names) cycle
@@ -166,7 +154,7 @@ deferred_by_again names robot route cycle others declared known named robots is 
     (record { robot = robot_in names (robot_text names robot); act = Deferred (map (cell_in names) (map (cell_text names) route)) (map (robot_in names) (map (robot_text names) cycle)) })
     (record { robot = robot; act = Deferred route cycle })
     more refl
-    (and_from (is_robot names (robot_text names robot) && list_all (is_robot names) (map (robot_text names) cycle)) (list_all (is_cell names) (map (cell_text names) route)) (and_from (is_robot names (robot_text names robot)) (list_all (is_robot names) (map (robot_text names) cycle)) by_robot.is by_robots.are) by_cells.are)
+    (and_from (is_robot names (robot_text names robot) && list_all (is_robot names) (map (robot_text names) cycle)) (list_all (is_cell names) (map (cell_text names) route)) (and_from (is_robot names (robot_text names robot)) (list_all (is_robot names) (map (robot_text names) cycle)) by_robot.test by_robots.test) by_cells.test)
     (rw (by_robot.back, by_cells.back, by_robots.back) refl))
 
 deferred_again : (names : Named) (robot : RobotNo) (route : List CellNo) (cycle : List RobotNo) → AreDeclared names → IsRobot names robot → IsNamedRoute names route → length cycle ≤ 64 → AllByRecursion (IsRobot names) cycle
@@ -178,10 +166,11 @@ deferred_again names robot route cycle declared known named few robots =
     let by_cells = read_cells names route declared named.1 in
     let small : length cycle ≤ 999999999999999 = omega arith in
     let others : List (List ℕ) = map (robot_text names) cycle ++ map (cell_text names) route in
-    let words : AreWords (robot_text names robot ∷ decimal (length cycle) ∷ others) = (by_robot.word, (number_word (length cycle) small, both_words (map (robot_text names) cycle) (map (cell_text names) route) by_robots.words by_cells.words)) in
-    (words,
+    let words : AreWords (robot_text names robot ∷ decimal (length cycle) ∷ others) = (by_robot.word, (number_word (length cycle) small, both_words (map (robot_text names) cycle) (map (cell_text names) route) by_robots.words by_cells.words)) in (
+      words,
       rw (number_to_plain 64 (length cycle) few small, none_empty (robot_text names robot ∷ decimal (length cycle) ∷ others) words, number_value (length cycle) small)
-      (deferred_by_again names robot route cycle others declared known named robots refl))
+          (deferred_by_again names robot route cycle others declared known named robots refl),
+    )
 
 -- a keyword
 keyword_word : (act : Act) → IsWord (act_word act)
@@ -226,9 +215,6 @@ front_with before es lines = record { entries = before.entries ++ es; used = bef
 one_line : (names : Named) (n : ℕ) (before front : Front) (entry : Entry) (lines : List (List ℕ)) → said names before.entries (entry_text names entry) ≡ Ok (Some entry) → read_from (read_line names) read_all (n + 1) (Among (with_line before (entry_text names entry) (entry ∷ []))) lines ≡ Ok front
     → read_from (read_line names) read_all n (Among before) (entry_text names entry ∷ lines) ≡ Ok front
 one_line names n before front entry lines says later = rw says later
-
-length-line : (line : List ℕ) (lines : List (List ℕ)) → length (lines_text (line ∷ lines)) ≡ length line + 1 + length (lines_text lines)
-length-line line lines = length-append (line ++ 10 ∷ []) (lines_text lines) ∙ ap (λ n. n + length (lines_text lines)) (length-append line (10 ∷ []))
 
 same_front : (entries told : List Entry) (used bytes lines count : ℕ) → entries ≡ told → used ≡ bytes → lines ≡ count
     → (let a : Result Front At = Ok (record { entries = entries; used = used; lines = lines }) in a ≡ Ok (record { entries = told; used = bytes; lines = count }))

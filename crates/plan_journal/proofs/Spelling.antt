@@ -1,17 +1,16 @@
 -- The words of printed lines: their bytes, and lines made of them.
-use Rattle.std.proofs.Common.{◌≡◌, ⊎_elim, ℕ, ◌+◌, ◌-◌, ◌^◌, ◌<◌, ◌≤◌, ◌&&◌, ◌||◌, leb, ltb, eqb, not, Bool, true, false, cond, List, [], ◌∷◌, ◌++◌, length, map, get_or, All, refl, sym, ap, ◌∙◌, arith}
+use Rattle.std.proofs.Common.{◌≡◌, ⊎_elim, ℕ, ◌^◌, ◌<◌, ◌≤◌, ◌&&◌, ◌||◌, leb, eqb, not, true, false, List, [], ◌∷◌, ◌++◌, length, get_or, refl, ap, ◌∙◌, arith}
 use Rattle.std.specs.Fmt.{decimal}
-use Rattle.std.specs.List.{list_any, list_all, slice_split, AllByRecursion}
+use Rattle.std.specs.List.{list_any, list_all, AllByRecursion}
 use Rattle.std.specs.Str.{all_ascii_digits}
 use Rattle.std.specs.Str.Parse.{digits_value}
-use Rattle.std.proofs.lemmas.Bool.{cases_lt, and_parts, and_from, or_cases, eqb-true, eq-eqb, ne_eqb, leb-true, le-leb, le-ltb, not_from_false, or_left, or_right}
+use Rattle.std.proofs.lemmas.Bool.{cases_lt, and_parts, and_from, or_cases, eqb-true, ne_eqb, leb-true, le-leb, le-ltb, not_from_false, or_left, or_right}
 use Rattle.std.proofs.lemmas.List.{append-nil}
 use Rattle.std.proofs.lemmas.List.Elements.{All-from_recursion}
 use Rattle.std.proofs.lemmas.List.Splits.{slice_split_at, slice_split_none}
 use Rattle.std.proofs.lemmas.Fmt.{decimal_nonempty, digits_decimal, digits_value-decimal, length-decimal-le, first_decimal, decimal_digit}
 use Rattle.fleet_names.specs.Names.{is_name, is_name_byte}
 use Rattle.fleet_texts.specs.Words.{spaced, behind}
-use Rattle.site_lines.specs.Lines.{is_feed}
 use Rattle.site_lines.specs.Numbers.{is_number}
 use Rattle.plan_journal.specs.Entries.{has_empty, is_plain_number}
 use Rattle.plan_journal.specs.Reading.{is_odd, parts_of, ended_lines, onto_line}

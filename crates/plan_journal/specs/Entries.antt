@@ -1,5 +1,5 @@
 -- The lines of entries: what their words say, and their codes.
-use Rattle.std.specs.Prelude.{ℕ, ◌+◌, ◌==◌, nat_lt, nat_le, not, ◌&&◌, ◌||◌, if◌then◌else◌, Bool, true, false, List, [], ◌∷◌, ◌++◌, length, map, take, drop, codes, slice_index, Option, Some, None, Result, Ok, Err}
+use Rattle.std.specs.Prelude.{ℕ, ◌==◌, nat_le, not, ◌&&◌, ◌||◌, if◌then◌else◌, Bool, true, List, [], ◌∷◌, length, map, take, drop, codes, slice_index, Option, Some, None, Result, Ok, Err}
 use Rattle.std.specs.List.{list_any, list_all}
 use Rattle.std.specs.Option.{unwrap_or, is_some}
 use Rattle.std.specs.Str.{bytes_eq}
