@@ -6,7 +6,9 @@ ghost use Rattle.std.specs.Prelude.{◌≡◌, ℕ, ◌+◌, ◌≤◌, List, �
 ghost use Rattle.std.specs.List.{AllByRecursion};
 ghost use Rattle.fleet_base.specs.declared.entries.Entry.{Entry};
 ghost use Rattle.fleet_names.specs.Names.{Named, AreDeclared};
-ghost use Rattle.site_lines.specs.Readings.{IsFirstFault};
+ghost use Rattle.site_lines.specs.Readings.{IsFirstFault, IsLeastCode, Row};
+ghost use Rattle.site_lines.specs.declared.fault.Code.{Code};
+ghost use Rattle.plan_journal.specs.Entries.{judged};
 ghost use Rattle.site_lines.specs.declared.fault.At.{At};
 ghost use Rattle.fleet_texts.specs.Texts.{journal_text};
 ghost use Rattle.plan_journal.specs.Printable.{IsPrintable, IsPrintedFront};
@@ -26,4 +28,9 @@ pub fn first_bad_line_is_named()
 pub fn printed_is_read_again()
     ensures { (names : Named) (entries : List Entry) (tail : List ℕ) → AreDeclared names → length entries ≤ 1000000 → AllByRecursion (IsPrintable names) entries
         → journal_of names (journal_text names entries ++ tail) ≡ Ok (record { entries = entries; used = length (journal_text names entries); lines = length entries + 2 }) }
+{}
+
+/// Where a line is judged by a table, its code is that of the first row that fits.
+pub fn least_code_is_given()
+    ensures { (rows : List Row) (entry : Entry) (code : Code) → judged rows entry ≡ Err code → IsLeastCode rows code }
 {}
