@@ -1,14 +1,14 @@
 -- What has no name is past the count of its kind.
-use Rattle.std.proofs.Common.{◌≡◌, ⊎_elim, ℕ, ◌+◌, ◌≤◌, max, Bool, true, false, cond, eqb, List, [], ◌∷◌, length, map, Option, Some, None, slice_get, refl, sym, ap, ◌∙◌, arith}
+use Rattle.std.proofs.Common.{◌≡◌, ℕ, ◌+◌, ◌≤◌, max, Bool, true, false, eqb, List, [], ◌∷◌, length, map, Some, None, refl, ap, ◌∙◌, arith}
 use Rattle.std.specs.Prelude.{MatchBool}
 use Rattle.std.specs.Option.{unwrap_or}
-use Rattle.std.proofs.lemmas.Bool.{cases_Bool, MatchBool-at_true, MatchBool-at_false, ne_eqb}
+use Rattle.std.proofs.lemmas.Bool.{ne_eqb}
 use Rattle.std.proofs.lemmas.List.{length-append, length-map}
 use Rattle.std.proofs.lemmas.List.FromFn.{length-map-range_with_len, length-range_with_len}
 use Rattle.std.proofs.lemmas.Option.{slice_get_past}
 use Rattle.fleet_base.specs.declared.numbers.ClaimNo.{ClaimNo}
 use Rattle.fleet_names.specs.declared.thing.Thing.{Thing}
-use Rattle.fleet_names.specs.Things.{number_of, same_kind, same_thing}
+use Rattle.fleet_names.specs.Things.{number_of, same_kind}
 use Rattle.fleet_names.specs.Names.{Named, name_of, count_of, CountUp, AreDeclared}
 use Rattle.fleet_names.proofs.Steps.{count_of-holds, count_of-fails}
 use Rattle.fleet_base.specs.declared.numbers.CellNo.{CellNo}

@@ -32,10 +32,12 @@ use Rattle.fleet_texts.specs.Words.{spaced, cell_text, kind_words, block_words}
 abbrev pub span_text : Span → List ℕ
 span_text span = spaced (codes "merged" ∷ decimal span.first.0 ∷ decimal span.last.0 ∷ [])
 
+-- what became of a proposed route
 abbrev pub proposed_text : Named → BuiltSite → Proposed → List ℕ
 proposed_text names site (Merged span) = span_text span
 proposed_text names site (Deferred block) = spaced (codes "deferred" ∷ block_words names site block)
 
+-- why a proposal is refused
 abbrev pub propose_refused_text : Named → ProposeRefused → List ℕ
 propose_refused_text names propose.UnknownRobot = codes "refused robot"
 propose_refused_text names propose.HasPending = codes "refused pending"
@@ -47,6 +49,7 @@ propose_refused_text names (propose.BadStart end) = spaced (codes "refused start
 propose_refused_text names propose.Full = codes "refused full"
 propose_refused_text names propose.NoMemory = codes "refused memory"
 
+-- why a retry is refused
 abbrev pub retry_refused_text : Named → BuiltSite → RetryRefused → List ℕ
 retry_refused_text names site retry.UnknownRobot = codes "refused robot"
 retry_refused_text names site retry.NoPending = codes "refused no pending"
@@ -54,6 +57,7 @@ retry_refused_text names site (retry.StillDeferred block) = spaced (codes "still
 retry_refused_text names site retry.Full = codes "refused full"
 retry_refused_text names site retry.NoMemory = codes "refused memory"
 
+-- why a cancel is refused
 abbrev pub cancel_refused_text : CancelRefused → List ℕ
 cancel_refused_text cancel.UnknownRobot = codes "refused robot"
 cancel_refused_text cancel.NoPending = codes "refused no pending"
@@ -62,10 +66,12 @@ cancel_refused_text cancel.NoPending = codes "refused no pending"
 abbrev pub withdrawn_text : Named → Withdrawn → List ℕ
 withdrawn_text names withdrawn = spaced (codes "withdrawn" ∷ decimal withdrawn.removed ∷ cell_text names withdrawn.end ∷ [])
 
+-- why a withdrawal is refused
 abbrev pub withdraw_refused_text : WithdrawRefused → List ℕ
 withdraw_refused_text withdraw.UnknownRobot = codes "refused robot"
 withdraw_refused_text withdraw.Nothing = codes "refused nothing"
 
+-- why a replan is refused
 abbrev pub replan_refused_text : ReplanRefused → List ℕ
 replan_refused_text replan.UnknownRobot = codes "refused robot"
 replan_refused_text replan.NoPending = codes "refused no pending"
@@ -79,6 +85,7 @@ abbrev pub next_text : Option EventNo → List ℕ
 next_text None = codes "none"
 next_text (Some event) = decimal event.0
 
+-- why a report is refused
 abbrev pub report_refused_text : ReportRefused → List ℕ
 report_refused_text report.UnknownRobot = codes "refused robot"
 report_refused_text (report.NotNext next) = spaced (codes "refused next" ∷ next_text next ∷ [])
@@ -100,9 +107,11 @@ pending_look_words names site (pending_look.Blocked block) = codes "blocked" ∷
 abbrev pub standing_words : Named → Look → List (List ℕ)
 standing_words names look = codes "look at" ∷ cell_text names look.at ∷ codes "end" ∷ cell_text names look.end ∷ codes "left" ∷ decimal look.left ∷ []
 
+-- what a look shows
 abbrev pub look_words : Named → BuiltSite → Look → List (List ℕ)
 look_words names site look = standing_words names look ++ codes "next" ∷ event_look_words names site look.event ++ codes "pending" ∷ pending_look_words names site look.pending
 
+-- the same as a line
 unfoldable pub look_text : Named → BuiltSite → Look → List ℕ
 look_text names site look = spaced (look_words names site look)
 

@@ -22,6 +22,7 @@ header_lines entries next = codes "state 1" ∷ spaced (codes "entries" ∷ deci
 abbrev pub robot_line : Named → RobotNo → CellNo → CellNo → List ℕ
 robot_line names robot at end = spaced (codes "robot" ∷ robot_text names robot ∷ codes "at" ∷ cell_text names at ∷ codes "end" ∷ cell_text names end ∷ [])
 
+-- the claims that a robot holds
 abbrev pub holds_line : Named → BuiltSite → List ClaimNo → List ℕ
 holds_line names site held = spaced (codes "holds" ∷ map (claim_text names site) held)
 
@@ -34,6 +35,7 @@ pending_lines names (Some route) = spaced (codes "pending" ∷ map (cell_text na
 abbrev pub event_words : Named → BuiltSite → Event → List (List ℕ)
 event_words names site event = decimal event.no.0 ∷ kind_words names site event.kind
 
+-- the line of an unfinished event
 abbrev pub event_line : Named → BuiltSite → Event → List ℕ
 event_line names site event = spaced (codes "event" ∷ event_words names site event)
 
@@ -49,5 +51,6 @@ robot_lines names site s r =
 abbrev pub state_lines : Named → BuiltSite → State → List (List ℕ)
 state_lines names site s = header_lines s.count s.fleet.next ++ flat_map (robot_lines names site s) (numbers_below (length s.fleet.starts)) ++ codes "end" ∷ []
 
+-- a state's text
 unfoldable pub state_text : Named → BuiltSite → State → List ℕ
 state_text names site s = lines_text (state_lines names site s)

@@ -39,5 +39,6 @@ entry_text names entry = spaced (entry_words names entry)
 abbrev pub journal_lines : Named → List Entry → List (List ℕ)
 journal_lines names entries = codes "journal 1" ∷ map (entry_text names) entries ++ codes "end" ∷ []
 
+-- a journal's text
 unfoldable pub journal_text : Named → List Entry → List ℕ
 journal_text names entries = lines_text (journal_lines names entries)

@@ -34,6 +34,7 @@ lines_text lines = flat_map (λ line. line ++ 10 ∷ []) lines
 unfoldable pub name_text : Named → Thing → List ℕ
 name_text names thing = unwrap_or (name_of names thing) []
 
+-- the name of a cell, and of a robot
 abbrev pub cell_text : Named → CellNo → List ℕ
 cell_text names cell = name_text names (thing.Cell cell.0)
 
@@ -50,6 +51,7 @@ abbrev pub claim_name_text : Named → ClaimName → List ℕ
 claim_name_text names (claim_name.Cell cell) = cell_text names cell
 claim_name_text names (claim_name.Crossing crossing flow) = name_text names (thing.Crossing crossing) ++ flow_text flow
 
+-- the same, and no bytes for no claim
 abbrev pub known_claim_text : Named → Option ClaimName → List ℕ
 known_claim_text names None = []
 known_claim_text names (Some name) = claim_name_text names name

@@ -4,7 +4,7 @@ use Rattle.std.specs.Prelude.{slice_range}
 use Rattle.std.specs.List.{before_first, after_first, position_or_len}
 use Rattle.std.proofs.Math.Numerals.{one-add, add-one}
 use Rattle.std.proofs.lemmas.Bool.{cases_Bool, ltb-true, ltb-false}
-use Rattle.std.proofs.lemmas.List.{length-drop, drop-drop, drop_all}
+use Rattle.std.proofs.lemmas.List.{length-drop, drop-drop}
 use Rattle.site_lines.specs.Lines.{is_feed, stop_of, line_from}
 use Rattle.site_lines.specs.declared.line.Line.{Line}
 use Rattle.plan_journal.specs.Reading.{ended_lines, onto_line}

@@ -1,8 +1,10 @@
 pub mod Accepted
+pub mod Again
 pub mod EndedLines
 pub mod Lists
 pub mod Naming
 pub mod Numbers
 pub mod Printed
 pub mod Shapes
+pub mod Spelling
 pub mod Steps

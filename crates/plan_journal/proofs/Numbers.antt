@@ -1,5 +1,5 @@
 -- Numbers without a leading zero.
-use Rattle.std.proofs.Common.{◌≡◌, ⊎_elim, ℕ, ◌≤◌, ◌<◌, ◌^◌, ◌&&◌, ◌||◌, Bool, true, false, cond, not, eqb, leb, List, [], ◌∷◌, length, get_or, Ok, Err, refl, sym, ap, ◌∙◌, arith, rules, lit<}
+use Rattle.std.proofs.Common.{◌≡◌, ⊎_elim, ℕ, ◌≤◌, ◌&&◌, ◌||◌, true, false, not, eqb, leb, List, length, get_or, Ok, Err, refl, sym, ◌∙◌, arith, rules}
 use Rattle.std.specs.Fmt.{decimal}
 use Rattle.std.specs.Str.{all_ascii_digits}
 use Rattle.std.specs.Str.Parse.{digits_value}
@@ -10,7 +10,7 @@ use Rattle.site_lines.specs.Numbers.{is_number, number_of}
 use Rattle.site_lines.specs.declared.number.NumberRefused.{NumberRefused}
 use Rattle.plan_journal.specs.Entries.{is_plain_number}
 
-own : IsNumeralModel (λ ds. all_ascii_digits ds ≡ true) (digits_value 10)
+pub own : IsNumeralModel (λ ds. all_ascii_digits ds ≡ true) (digits_value 10)
 own = numerals_by_value _ (search rules)
 
 -- 15 digits are at most so much

@@ -1,22 +1,22 @@
 -- An accepted line is the printed line of its entry.
-use Rattle.std.proofs.Common.{◌≡◌, ⊎_elim, ℕ, ◌+◌, ◌-◌, ◌<◌, ◌≤◌, ◌&&◌, ◌||◌, leb, eqb, not, Bool, true, false, cond, List, [], ◌∷◌, ◌++◌, length, map, take, drop, Option, Some, None, Result, Ok, Err, refl, sym, ap, subst, ◌∙◌, arith}
+use Rattle.std.proofs.Common.{◌≡◌, ℕ, ◌≤◌, ◌&&◌, ◌||◌, leb, Bool, true, false, cond, List, [], ◌∷◌, ◌++◌, length, map, take, drop, Option, Some, None, Result, Ok, Err, refl, sym, ap, subst, ◌∙◌, arith}
 use Rattle.std.specs.Prelude.{codes}
 use Rattle.std.specs.Fmt.{decimal}
-use Rattle.std.specs.List.{list_all, AllByRecursion, join_with_byte}
+use Rattle.std.specs.List.{list_all, join_with_byte}
 use Rattle.std.specs.Str.{bytes_eq}
 use Rattle.std.specs.Str.Parse.{digits_value}
-use Rattle.std.proofs.lemmas.Bool.{cases_Bool, and_parts, false≢true, leb-true, leb-false}
+use Rattle.std.proofs.lemmas.Bool.{and_parts, false≢true, leb-true, leb-false}
 use Rattle.std.proofs.lemmas.List.{append-nil, length-map, length-take, length-drop, take-append-drop}
 use Rattle.std.proofs.lemmas.List.Splits.{join_with_byte-slice_split}
 use Rattle.std.proofs.lemmas.Slice.Eq.{bytes_eq-Decides}
-use Rattle.fleet_base.specs.declared.entries.Act.TheVariants.{Merged, Deferred, Retried, Canceled, Withdrawn, Replanned, Reported}
+use Rattle.fleet_base.specs.declared.entries.Act.TheVariants.{Deferred, Canceled, Withdrawn}
 use Rattle.fleet_base.specs.declared.entries.Entry.{Entry}
 use Rattle.fleet_names.specs.Names.{Named, AreDeclared}
-use Rattle.fleet_texts.specs.Words.{spaced, behind, cell_text, robot_text}
-use Rattle.fleet_texts.specs.Texts.{entry_text, entry_words, act_word}
+use Rattle.fleet_texts.specs.Words.{spaced, cell_text, robot_text}
+use Rattle.fleet_texts.specs.Texts.{entry_words}
 use Rattle.site_lines.specs.Numbers.{is_number}
 use Rattle.site_lines.specs.declared.fault.Code.{Code}
-use Rattle.site_lines.specs.declared.fault.Code.TheVariants.{J4, J5, J6, J7, J8}
+use Rattle.site_lines.specs.declared.fault.Code.TheVariants.{J6}
 use Rattle.plan_journal.specs.declared.lines.EventLine.{EventLine}
 use Rattle.plan_journal.specs.declared.lines.RouteLine.{RouteLine}
 use Rattle.plan_journal.specs.declared.words.Keyword.{Keyword}
@@ -76,9 +76,9 @@ route_told names full (robot ∷ first ∷ cell ∷ cells) line declared is =
     let by_cells = told_cells names (cell ∷ cells) declared named.1 in
     let number = and_parts (is_number 15 first) _ all.good_numbers in
     subst (λ (l : RouteLine). IsRouteLine names l (robot ∷ first ∷ cell ∷ cells)) all.gives (record {
-      spelled = rw (by_robot.text, plain_decimal first all.good_numbers, by_cells.text) refl;
-      robot = by_robot.known;
-      route = (omega arith, by_cells.known);
+      spelled = rw (by_robot.same, plain_decimal first all.good_numbers, by_cells.same) refl;
+      robot = by_robot.known_it;
+      route = (omega arith, by_cells.known_all);
       first = small_number first number.0;
     })
 
@@ -96,8 +96,8 @@ event_told names full (robot ∷ event ∷ []) line declared is =
     let by_robot = told_robot names robot declared all.good_names in
     let number = and_parts (is_number 15 event) _ all.good_numbers in
     subst (λ (l : EventLine). IsEventLine names l (robot ∷ event ∷ [])) all.gives (record {
-      spelled = rw (by_robot.text, plain_decimal event all.good_numbers) refl;
-      robot = by_robot.known;
+      spelled = rw (by_robot.same, plain_decimal event all.good_numbers) refl;
+      robot = by_robot.known_it;
       event = small_number event number.0;
     })
 event_told names full (robot ∷ event ∷ word ∷ words) line declared is = absurd (cc)
@@ -107,7 +107,7 @@ canceled_told names full [] entry declared is = absurd (cc)
 canceled_told names full (robot ∷ []) entry declared is =
     let all = passed (has_empty (robot ∷ [])) true (is_robot names robot) full (record { robot = robot_in names robot; act = Canceled }) entry is in
     let by_robot = told_robot names robot declared all.good_names in
-    subst (λ (e : Entry). IsSpelled names e (codes "canceled" ∷ robot ∷ [])) all.gives (record { spelled = rw by_robot.text refl; robot = by_robot.known; act = tt })
+    subst (λ (e : Entry). IsSpelled names e (codes "canceled" ∷ robot ∷ [])) all.gives (record { spelled = rw by_robot.same refl; robot = by_robot.known_it; act = tt })
 canceled_told names full (robot ∷ word ∷ words) entry declared is = absurd (cc)
 
 withdrawn_told : (names : Named) (full : Bool) (words : List (List ℕ)) (entry : Entry) → AreDeclared names → withdrawn_line names full words ≡ Ok entry → IsSpelled names entry (codes "withdrawn" ∷ words)
@@ -123,9 +123,9 @@ withdrawn_told names full (robot ∷ removed ∷ cell ∷ []) entry declared is 
     let by_cell = told_cell names cell declared named.1 in
     let number = and_parts (is_plain_number removed) (leb (digits_value 10 removed) 1000000) all.good_numbers in
     subst (λ (e : Entry). IsSpelled names e (codes "withdrawn" ∷ robot ∷ removed ∷ cell ∷ [])) all.gives (record {
-      spelled = rw (by_robot.text, plain_decimal removed number.0, by_cell.text) refl;
-      robot = by_robot.known;
-      act = (leb-true (digits_value 10 removed) 1000000 number.1, by_cell.known);
+      spelled = rw (by_robot.same, plain_decimal removed number.0, by_cell.same) refl;
+      robot = by_robot.known_it;
+      act = (leb-true (digits_value 10 removed) 1000000 number.1, by_cell.known_it);
     })
 withdrawn_told names full (robot ∷ removed ∷ cell ∷ word ∷ words) entry declared is = absurd (cc)
 
@@ -148,9 +148,9 @@ deferred_by_told names full empty robot count k others entry declared spelled fe
     let long : length (map (robot_in names) (take k others)) ≡ k = length-map (take k others) (robot_in names) ∙ length-take k others ∙ omega arith in
     let some : 1 ≤ length (map (cell_in names) (drop k others)) = simp (length-map, length-drop) (omega arith) in
     subst (λ (e : Entry). IsSpelled names e (codes "deferred" ∷ robot ∷ count ∷ others)) all.gives (record {
-      spelled = rw (by_robot.text, long, spelled, by_robots.text, by_cells.text) (ap (λ words. codes "deferred" ∷ robot ∷ count ∷ words) (take-append-drop k others));
-      robot = by_robot.known;
-      act = ((some, by_cells.known), omega arith, by_robots.known);
+      spelled = rw (by_robot.same, long, spelled, by_robots.same, by_cells.same) (ap (λ words. codes "deferred" ∷ robot ∷ count ∷ words) (take-append-drop k others));
+      robot = by_robot.known_it;
+      act = ((some, by_cells.known_all), omega arith, by_robots.known_all);
     })
 
 deferred_if : (names : Named) (full empty b : Bool) (robot count : List ℕ) (others : List (List ℕ)) (entry : Entry) → AreDeclared names → is_number_to 64 count ≡ b → cond b (deferred_by names full empty robot (digits_value 10 count) others) (Err J6) ≡ Ok entry

@@ -1,5 +1,5 @@
 -- One line of a journal more.
-use Rattle.std.proofs.Common.{◌≡◌, ℕ, ◌+◌, ◌-◌, ◌<◌, ◌≤◌, leb, Bool, true, false, cond, List, [], ◌∷◌, ◌++◌, length, take, drop, Option, Some, None, Result, Ok, Err, refl, sym, ap, ◌∙◌, arith, zero-add}
+use Rattle.std.proofs.Common.{◌≡◌, ℕ, ◌+◌, ◌-◌, ◌<◌, ◌≤◌, leb, Bool, true, false, cond, List, [], ◌∷◌, ◌++◌, length, take, drop, Option, Some, None, Result, Ok, Err, refl, sym, ap, ◌∙◌, arith}
 use Rattle.std.specs.Prelude.{slice_range, codes}
 use Rattle.std.specs.Str.{bytes_eq}
 use Rattle.std.proofs.lemmas.List.{append-nil, length-take, length-drop}
@@ -7,7 +7,7 @@ use Rattle.std.specs.List.{list_any}
 use Rattle.site_lines.specs.Lines.{is_too_long}
 use Rattle.fleet_base.specs.declared.entries.Entry.{Entry}
 use Rattle.fleet_names.specs.Names.{Named}
-use Rattle.site_lines.specs.Readings.{onward, read_from}
+use Rattle.site_lines.specs.Readings.{read_from}
 use Rattle.site_lines.specs.declared.fault.At.{At}
 use Rattle.site_lines.specs.declared.fault.Code.{Code}
 use Rattle.site_lines.specs.declared.fault.Code.TheVariants.{J1, J2, J3, J9}
@@ -16,7 +16,7 @@ use Rattle.plan_journal.specs.declared.lines.LineRefused.TheVariants as refused
 use Rattle.plan_journal.specs.Gives.{Gives, GivesLine, refused_at}
 use Rattle.plan_journal.specs.Entries.{line_of}
 use Rattle.plan_journal.specs.Left.{left}
-use Rattle.plan_journal.specs.Reading.{journal_of, no_front, is_odd, Front, Progress, Among, Ended, checked, parts_of, ended_lines, is_full, with_line, behind_line, read_line, read_all}
+use Rattle.plan_journal.specs.Reading.{journal_of, no_front, is_odd, Front, Among, Ended, checked, parts_of, ended_lines, is_full, with_line, read_line, read_all}
 
 -- a line that is judged as the header
 header_told : {A B : Type 0} (long odd same : Bool) (x : A) (y : B) → cond long (Err J1) (cond odd (Err J2) (cond same (Ok x) (Err J3))) ≡ Ok x → cond long (Err J1) (cond odd (Err J2) (cond same (Ok y) (Err J3))) ≡ Ok y

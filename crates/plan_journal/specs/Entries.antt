@@ -1,5 +1,5 @@
 -- The lines of entries: what their words say, and their codes.
-use Rattle.std.specs.Prelude.{ℕ, ◌+◌, ◌==◌, nat_lt, nat_le, not, ◌&&◌, ◌||◌, if◌then◌else◌, Bool, true, false, List, [], ◌∷◌, ◌++◌, length, map, take, drop, codes, slice_index, Option, Some, None, Result, Ok, Err}
+use Rattle.std.specs.Prelude.{ℕ, ◌==◌, nat_le, not, ◌&&◌, ◌||◌, if◌then◌else◌, Bool, true, List, [], ◌∷◌, length, map, take, drop, codes, slice_index, Option, Some, None, Result, Ok, Err}
 use Rattle.std.specs.List.{list_any, list_all}
 use Rattle.std.specs.Option.{unwrap_or, is_some}
 use Rattle.std.specs.Str.{bytes_eq}
@@ -31,6 +31,7 @@ is_plain_number word = is_number 15 word && (length word == 1 || not (slice_inde
 unfoldable pub is_number_to : ℕ → List ℕ → Bool
 is_number_to limit word = is_plain_number word && nat_le (digits_value 10 word) limit
 
+-- the number of a robot, or of a cell, if that was found
 abbrev pub robot_number : Option Thing → Option ℕ
 robot_number (Some (thing.Robot n)) = Some n
 robot_number (Some (thing.Cell n)) = None
@@ -66,14 +67,17 @@ cells_of names words = if list_all (is_cell names) words then Ok (map (cell_in n
 abbrev pub robots_of : Named → List (List ℕ) → Result (List RobotNo) Code
 robots_of names words = if list_all (is_robot names) words then Ok (map (robot_in names) words) else Err J7
 
+-- the event that a number names
 abbrev pub event_in : List ℕ → EventNo
 event_in word = record { 0 = digits_value 10 word }
 
+-- a word without a byte
 abbrev pub has_empty : List (List ℕ) → Bool
 has_empty words = list_any (λ word. length word == 0) words
 
 -- Codes.
 
+-- the code, and without one the value
 abbrev pub unless_code : {A : Type 0} → Option Code → A → Result A Code
 unless_code None value = Ok value
 unless_code (Some code) value = Err code
@@ -82,6 +86,7 @@ unless_code (Some code) value = Err code
 abbrev pub judged : {A : Type 0} → List Row → A → Result A Code
 judged rows value = unless_code (least_code rows) value
 
+-- a row of a table: whether the code fits
 abbrev pub row : Bool → Code → Row
 row fits code = record { fits = fits; code = code }
 
@@ -142,10 +147,12 @@ abbrev pub end_line : List (List ℕ) → Result (Option Entry) Code
 end_line [] = Ok None
 end_line (word ∷ words) = Err J5
 
+-- what is made of a line that isn't bad
 abbrev pub on_ok : {A B : Type 0} → (A → B) → Result A Code → Result B Code
 on_ok f (Ok a) = Ok (f a)
 on_ok f (Err code) = Err code
 
+-- the entries that lines with a route, or with a number, say
 abbrev pub merged : RouteLine → Entry
 merged line = record { robot = line.robot; act = Merged line.route line.first }
 

@@ -1,5 +1,5 @@
--- Which entries have a line that is read again.
-use Rattle.std.specs.Prelude.{ℕ, ◌<◌, ◌≤◌, List, length}
+-- Which entries have a line that is read again, and the printed text of what was read.
+use Rattle.std.specs.Prelude.{◌≡◌, ℕ, ◌+◌, ◌<◌, ◌≤◌, List, length, take}
 use Rattle.std.specs.List.{AllByRecursion}
 use Rattle.fleet_base.specs.declared.entries.Act.{Act}
 use Rattle.fleet_base.specs.declared.entries.Act.TheVariants.{Merged, Deferred, Retried, Canceled, Withdrawn, Replanned, Reported}
@@ -9,7 +9,8 @@ use Rattle.fleet_base.specs.declared.numbers.EventNo.{EventNo}
 use Rattle.fleet_base.specs.declared.numbers.RobotNo.{RobotNo}
 use Rattle.fleet_names.specs.Names.{Named, count_of}
 use Rattle.fleet_names.specs.Things as things
-use Rattle.fleet_texts.specs.Texts.{entry_text}
+use Rattle.fleet_texts.specs.Texts.{entry_text, journal_text}
+use Rattle.plan_journal.specs.Reading.{Front}
 
 -- the robot, or the cell, has a name
 abbrev pub IsRobot : Named → RobotNo → Type 0
@@ -40,3 +41,9 @@ pub record IsPrintable (names : Named) (entry : Entry) : Type 0 where
   pub robot : IsRobot names entry.robot
   pub act : IsPrintableAct names entry.act
   pub short : length (entry_text names entry) ≤ 65536
+
+-- what was read is the printed text of its entries: so many bytes at the front of the text, with a line for each entry, one for the header and one for the end
+pub record IsPrintedFront (names : Named) (bytes : List ℕ) (front : Front) : Type 0 where
+  pub text : take front.used bytes ≡ journal_text names front.entries
+  pub count : front.lines ≡ length front.entries + 2
+  pub printable : AllByRecursion (IsPrintable names) front.entries

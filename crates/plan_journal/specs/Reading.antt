@@ -1,5 +1,5 @@
 -- What a journal's text says, and the first of its lines that is bad.
-use Rattle.std.specs.Prelude.{ℕ, ◌+◌, ◌==◌, nat_lt, nat_le, not, ◌||◌, if◌then◌else◌, Bool, List, [], ◌∷◌, ◌++◌, length, codes, Option, Some, None, Result, Ok, Err}
+use Rattle.std.specs.Prelude.{ℕ, ◌+◌, ◌==◌, nat_lt, nat_le, ◌||◌, if◌then◌else◌, Bool, List, [], ◌∷◌, ◌++◌, length, codes, Option, Some, None, Result, Ok, Err}
 use Rattle.std.specs.List.{list_any, slice_split}
 use Rattle.std.specs.Str.{bytes_eq}
 use Rattle.fleet_base.specs.declared.entries.Entry.{Entry}
@@ -11,6 +11,7 @@ use Rattle.site_lines.specs.declared.fault.Code.{Code}
 use Rattle.site_lines.specs.declared.fault.Code.TheVariants.{J1, J2, J3, J9}
 use Rattle.plan_journal.specs.Entries.{line_of}
 
+-- the lines with one more byte in front of the first; none where no line feed comes
 abbrev pub onto_line : ℕ → List (List ℕ) → List (List ℕ)
 onto_line b [] = []
 onto_line b (line ∷ lines) = (b ∷ line) ∷ lines
@@ -48,12 +49,15 @@ checked line rest = if is_too_long line then Err J1 else (if list_any is_odd lin
 abbrev pub with_line : Front → List ℕ → List Entry → Front
 with_line front line entries = record { entries = front.entries ++ entries; used = front.used + (length line + 1); lines = front.lines + 1 }
 
+-- nothing was read
 abbrev pub no_front : Front
 no_front = record { entries = []; used = 0; lines = 0 }
 
+-- what the first line makes
 abbrev pub header_line : List ℕ → Result Progress Code
 header_line line = if bytes_eq line (codes "journal 1") then Ok (Among (with_line no_front line [])) else Err J3
 
+-- what a further line makes, by what it says
 abbrev pub behind_line : Front → List ℕ → Result (Option Entry) Code → Result Progress Code
 behind_line front line (Ok (Some entry)) = Ok (Among (with_line front line (entry ∷ [])))
 behind_line front line (Ok None) = Ok (Ended (with_line front line []))

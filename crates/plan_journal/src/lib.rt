@@ -1,6 +1,9 @@
 //! The reader of journals.
 #![tactic(auto)]
 
+pub mod laws;
 mod lines;
 pub mod reading;
+#[cfg(test)]
+mod tests;
 mod words;

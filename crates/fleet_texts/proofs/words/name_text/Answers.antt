@@ -1,4 +1,4 @@
-use Rattle.std.proofs.Common.{◌≡◌, refl, sym, arith}
+use Rattle.std.proofs.Common.{refl, sym, arith}
 use Rattle.fleet_texts.specs.Words.{name_text}
 use Rattle.fleet_texts.proofs.Naming.{no_name}
 use Rattle.fleet_texts.proofs.words.name_text.Goals as goal

@@ -1,5 +1,4 @@
-use Rattle.std.proofs.Common.{◌≡◌, map, sym, arith}
-use Rattle.std.specs.List.{list_all}
+use Rattle.std.proofs.Common.{map, sym, arith}
 use Rattle.std.proofs.lemmas.Result.{err_from_is_err_and}
 use Rattle.plan_journal.specs.Entries.{is_robot, robot_in}
 use Rattle.plan_journal.proofs.Lists.{refuses_all}

@@ -1,4 +1,3 @@
-use Rattle.std.proofs.Common.{◌≡◌}
 use Rattle.std.proofs.lemmas.List.{take_rest}
 use Rattle.plan_journal.proofs.Shapes.{route_short, route_long}
 use Rattle.plan_journal.proofs.lines.route_line.Goals as goal

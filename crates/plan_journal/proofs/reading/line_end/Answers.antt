@@ -1,4 +1,3 @@
-use Rattle.std.proofs.Common.{◌≡◌, sym, ◌∙◌}
 use Rattle.plan_journal.proofs.EndedLines.{line_told, no_line_told}
 use Rattle.plan_journal.proofs.reading.line_end.Goals as goal
 

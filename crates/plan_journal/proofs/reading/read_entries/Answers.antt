@@ -1,5 +1,4 @@
 use Rattle.std.proofs.Common.{◌≡◌, not, ◌++◌, ◌∷◌, [], length, sym, ap, ◌∙◌, arith}
-use Rattle.plan_journal.specs.Left.{left}
 use Rattle.plan_journal.proofs.Steps.{read_more, read_end, read_fault, cut_off}
 use Rattle.plan_journal.proofs.reading.read_entries.Goals as goal
 

@@ -1,4 +1,4 @@
-use Rattle.std.proofs.Common.{◌≡◌, [], ◌+◌, ◌-◌, ◌≤◌, length}
+use Rattle.std.proofs.Common.{◌≡◌, [], ◌-◌, ◌≤◌, length}
 use Rattle.plan_journal.specs.Left.{left}
 use Rattle.plan_journal.proofs.reading.read_entries.Given as goal
 
