@@ -130,6 +130,13 @@ impl EventGraph {
         self.kept.len() as u64
     }
 
+    /// The number of the next event that is appended.
+    pub fn next_number(&self) -> EventNo
+        ensures { result.0 ≡ self.now.next }
+    {
+        EventNo(self.next_no)
+    }
+
     /// Takes out an event that is ready.
     pub fn finish(&mut self, event: EventNo)
         requires { HasReady self.old.groups self.old.events event }

@@ -79,6 +79,7 @@ fn graph_answers(rt: HostRuntime) -> Result<(), Fail> {
         kind: Kind::Acquire(ClaimNo(1)),
     };
     assert_eq!(rt; graph.kept(), 12);
+    assert_eq!(rt; graph.next_number(), EventNo(13));
     assert_eq!(rt; graph.next(RobotNo(1)), Some(second));
     assert_eq!(rt; graph.unfinished(RobotNo(1), 0), Some(second));
     assert_eq!(rt; graph.unfinished(RobotNo(1), 3), None);

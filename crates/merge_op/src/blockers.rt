@@ -103,8 +103,8 @@ fn least_keeper(site: &Site, ends: &[CellNo], robot: RobotNo, claim: ClaimNo) ->
     None
 }
 
-// Whether the claim conflicts with one of the cell's.
-fn keeps(site: &Site, cell: CellNo, claim: ClaimNo) -> bool
+/// Whether the claim conflicts with one of the cell's. It takes no memory.
+pub fn keeps(site: &Site, cell: CellNo, claim: ClaimNo) -> bool
     requires cell { cell.0 < site.now.cells }
     requires claim { claim.0 < claim_total site.now }
     ensures { result ≡ is_kept_from (site_of site.now) claim cell }

@@ -1,0 +1,42 @@
+use Rattle.std.proofs.Common.{◌≡◌, ℕ, Option, Some, None, ap, sym, subst, ◌∙◌}
+use Rattle.std.specs.Option.{option_map}
+use Rattle.fleet_model.specs.Sites.{needs}
+use Rattle.fleet_model.specs.States.{block_of}
+use Rattle.fleet_model.specs.Calls.{deferring}
+use Rattle.merge_op.specs.Blocked.{pair_of}
+use Rattle.site_map.specs.Claims.{site_of}
+use Rattle.coordinator.specs.Books.{Book, state_of}
+use Rattle.coordinator.specs.Proposals.{block_with}
+use Rattle.coordinator.proofs.KeptNext.{state}
+use Rattle.coordinator.proofs.PendingRoutes.{block_made, ends_known, ends_same, few_ends}
+use Rattle.coordinator.proofs.Routes.{needs_below}
+use Rattle.coordinator.proofs.coordinator.Coordinator.propose.Goals as goal
+
+pub blocker-requires-clause-ends : goal.blocker-requires-clause-ends
+blocker-requires-clause-ends c = ends_known c.self.inside c.self.invariant
+
+pub blocker-requires-clause-few : goal.blocker-requires-clause-few
+blocker-requires-clause-few c = few_ends c.self.inside c.self.invariant
+
+pub blocker-requires-clause-needs : goal.blocker-requires-clause-needs
+blocker-requires-clause-needs c = needs_below c.self.inside.site c.self.invariant.counted c.args.cells.now c.needs-needed.result c.needs-needed.ensures
+
+pub merge_proposal-requires-clause-free : goal.merge_proposal-requires-clause-free
+merge_proposal-requires-clause-free c =
+    let i = c.self.inside in
+    let k = c.self.invariant in
+    let r = c.args.robot.0 in
+    let cells = c.args.cells.now in
+    let told = ap (option_map pair_of) (sym c.in-None.is) ∙ c.blocker.ensures (needs (site_of i.site) cells) c.needs-needed.ensures in
+    subst (λ (b : Book). block_of (deferring (state_of b) r cells) r cells ≡ None) c.self.view_is
+    (block_made i k (deferring (state i k) r cells) r cells None k.state.site (ends_same i k) told)
+
+pub defer_proposal-requires-clause-blocked : goal.defer_proposal-requires-clause-blocked
+defer_proposal-requires-clause-blocked c =
+    let i = c.self.inside in
+    let k = c.self.invariant in
+    let r = c.args.robot.0 in
+    let cells = c.args.cells.now in
+    let told = ap (option_map pair_of) (sym c.in-Some.is) ∙ c.blocker.ensures (needs (site_of i.site) cells) c.needs-needed.ensures in
+    subst (λ (b : Book). block_of (deferring (state_of b) r cells) r cells ≡ Some (block_with (deferring (state_of b) r cells) r c.in-Some.blocker)) c.self.view_is
+    (block_made i k (deferring (state i k) r cells) r cells (Some c.in-Some.blocker) k.state.site (ends_same i k) told)

@@ -1,0 +1,36 @@
+-- Merges of routes.
+use Rattle.std.specs.Prelude.{◌≡◌, ℕ, ◌+◌, ◌-◌, ◌<◌, List, ◌∷◌, length, Some}
+use Rattle.fleet_base.specs.declared.entries.Act.{Act}
+use Rattle.fleet_base.specs.declared.entries.Act.TheVariants as act
+use Rattle.fleet_base.specs.declared.numbers.CellNo.{CellNo}
+use Rattle.fleet_base.specs.declared.numbers.EventNo.{EventNo}
+use Rattle.fleet_base.specs.declared.numbers.Kind.{Kind}
+use Rattle.fleet_base.specs.declared.numbers.Span.{Span}
+use Rattle.fleet_model.specs.Sites.{last_cell, steps}
+use Rattle.fleet_model.specs.Plans.{IsRoute}
+use Rattle.fleet_model.specs.States.{State}
+use Rattle.fleet_model.specs.Calls.{Call, turn, with_route}
+use Rattle.coordinator.specs.declared.merging.Merging.{Merging}
+use Rattle.coordinator.specs.declared.merging.Merging.TheVariants.{Proposed, Retried, Replanned}
+
+-- what the entry of such a merge tells
+abbrev pub act_of : Merging → EventNo → Act
+act_of (Proposed route) first = act.Merged route first
+act_of Retried first = act.Retried first
+act_of (Replanned route) first = act.Replanned route first
+
+-- some call of robot r would be accepted, with this act, and put a route into the plan that does this and ends in that cell
+pub record WouldMerge (s : State) (r : ℕ) (kinds : List Kind) (end : CellNo) (act : Act) : Type 0 where
+  pub start : CellNo
+  pub rest : List CellNo
+  pub kinds_are : kinds ≡ steps s.fleet.site (start ∷ rest)
+  pub end_is : end ≡ last_cell start rest
+  pub robot : r < length s.fleet.starts
+  pub legal : IsRoute s.fleet r (start ∷ rest)
+  pub call : Call
+  pub gives : (turn s r call).entry ≡ Some (record { robot = record { 0 = r }; act = act })
+  pub after : (turn s r call).after ≡ with_route s r (start ∷ rest)
+
+-- the numbers of these events, from the first on
+abbrev pub span_from : EventNo → List Kind → Span
+span_from first kinds = record { first = first; last = record { 0 = first.0 + length kinds - 1 } }
