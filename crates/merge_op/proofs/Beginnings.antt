@@ -1,16 +1,16 @@
 -- Where the steps of a walk begin.
-use Rattle.std.proofs.Common.{◌≡◌, ◌≢◌, ℕ, zero, suc, ◌+◌, ◌-◌, ◌<◌, ◌≤◌, Bool, true, false, cond, not, ◌==◌, ◌||◌, ◌⊎◌, inl, inr, refl, sym, ap, ◌∙◌, subst, List, [], ◌∷◌, ◌++◌, map, length, take, arith, length-append, eq-eqb, Option, Some, None}
-use Rattle.std.proofs.lemmas.Bool.{both_ways, cases_Bool, cases_eq, cases_lt, lt-ltb, le-ltb, ne_eqb, not-true, not_from_false, or_from}
-use Rattle.std.proofs.lemmas.Option.{slice_get_past, same_Some}
+use Rattle.std.proofs.Common.{◌≡◌, ◌≢◌, ℕ, zero, suc, ◌+◌, ◌-◌, ◌<◌, ◌≤◌, Bool, true, false, cond, not, ◌==◌, inl, inr, refl, sym, ap, ◌∙◌, subst, List, [], ◌∷◌, ◌++◌, map, length, take, arith, length-append, eq-eqb, Option, Some, None}
+use Rattle.std.proofs.lemmas.Bool.{both_ways, cases_eq, cases_lt, lt-ltb, le-ltb, ne_eqb, not-true, not_from_false, or_from}
+use Rattle.std.proofs.lemmas.Option.{same_Some}
 use Rattle.std.proofs.Math.Seq.{take-append_seam, take-nil}
-use Rattle.std.specs.Prelude.{nat_lt, slice_get}
-use Rattle.std.specs.List.{filter, list_any}
+use Rattle.std.specs.Prelude.{slice_get}
+use Rattle.std.specs.List.{list_any}
 use Rattle.std.specs.Option.{is_some}
 use Rattle.fleet_base.specs.declared.numbers.CellNo.{CellNo}
 use Rattle.fleet_base.specs.declared.numbers.ClaimNo.{ClaimNo}
 use Rattle.fleet_base.specs.declared.numbers.Kind.{Kind}
 use Rattle.fleet_base.specs.declared.numbers.Kind.TheVariants.{Acquire, Move, Release}
-use Rattle.fleet_model.specs.Lists.{In, here, there}
+use Rattle.fleet_model.specs.Lists.{In}
 use Rattle.fleet_model.specs.Sites.{Site, IsSite, IsWalkFrom, footprint_of, has_claim, is_linked, last_cell, link_cost, moved_to, step, steps_from, without}
 use Rattle.fleet_model.specs.Replays.{AreSteps}
 use Rattle.fleet_model.proofs.Blockers.{In_has}
@@ -21,12 +21,12 @@ use Rattle.fleet_model.proofs.Steps.{moved_to-append, moved_to-steps, steps-appe
 use Rattle.fleet_model.proofs.Tests.{any_none}
 use Rattle.site_map.specs.Built.{BuiltSite}
 use Rattle.site_map.specs.Cells.{has_cell}
-use Rattle.site_map.specs.Claims.{claims_from, footprint_in, site_of}
+use Rattle.site_map.specs.Claims.{claims_from, site_of}
 use Rattle.site_map.specs.Crossings.{BuiltCrossing, claim_count_of, flow_of}
-use Rattle.site_map.proofs.SiteLemmas.{footprint_at}
+use Rattle.site_map.proofs.SiteLemmas.{footprint_at, slice_get_left}
 use Rattle.plan_events.proofs.Causes.{cell_count-site_of}
 use Rattle.merge_op.specs.Rests.{begins_step}
-use Rattle.merge_op.proofs.Places.{get_In, get-append_left, get-append_right}
+use Rattle.merge_op.proofs.Places.{get_In, get-append_right}
 
 -- the claims of crossings are numbered from the first on
 claims_low : (first : ℕ) (xs : List BuiltCrossing) (a : CellNo) (d : ClaimNo) → In d (claims_from first xs a) → first ≤ d.0
@@ -142,7 +142,7 @@ module _ (built : BuiltSite) where
     walk_begins a [] walk k h = absurd (cc)
     walk_begins a (b ∷ bs) walk k h =
         let known = linked_known a b walk.0 in
-        step_begins a b known.0 known.1 0 k (sym (get-append_left (step site a b) (steps_from site b bs) 0 (omega (arith, step_some a b))) ∙ h)
+        step_begins a b known.0 known.1 0 k (sym (slice_get_left (step site a b) (steps_from site b bs) 0 (omega (arith, step_some a b))) ∙ h)
       where
         step_some : (a b : CellNo) → 0 < length (step site a b)
         step_some a b = omega (arith, length-append (acquires (without (footprint_of site b) (footprint_of site a))) (Move a b ∷ releases (without (footprint_of site a) (footprint_of site b))))
@@ -172,7 +172,7 @@ module _ (built : BuiltSite) where
             go : (o : Option Kind) → slice_get (step site a b) (suc n) ≡ o → (front : List CellNo) × (back : List CellNo) × (b ∷ bs ≡ front ++ back) × (suc n ≡ length (steps_from site a front))
             go None e = absurd (get_within (step site a b) (suc n) h e)
             go (Some k) e =
-                absurd (both_ways (begins_step built.cells k) (step_begins a b known.0 known.1 (suc n) k e ∙ ne_eqb (suc n) 0 (λ z. omega arith)) (f k (get-append_left (step site a b) (steps_from site b bs) (suc n) h ∙ e)))
+                absurd (both_ways (begins_step built.cells k) (step_begins a b known.0 known.1 (suc n) k e ∙ ne_eqb (suc n) 0 (λ z. omega arith)) (f k (slice_get_left (step site a b) (steps_from site b bs) (suc n) h ∙ e)))
 
     -- behind whole steps of a robot's walk a step begins
     pub tail_begins : (o : Option CellNo) (front tail : List Kind) → AreSteps site o (front ++ tail) → AreSteps site o front → (k : Kind) → slice_get tail 0 ≡ Some k → begins_step built.cells k ≡ true

@@ -1,12 +1,25 @@
 -- The scan for the first of a robot's last events that may go.
-use Rattle.std.proofs.Common.{◌≡◌, ℕ, ◌+◌, ◌<◌, ◌≤◌, true, false, inl, inr, refl, sym, ap, ◌∙◌, List, length, arith, Some}
-use Rattle.std.proofs.lemmas.Bool.{both_ways, cases_order, cases_lt}
+use Rattle.std.proofs.Common.{◌≡◌, ℕ, ◌+◌, ◌≤◌, Bool, true, false, inl, inr, refl, sym, ap, ◌∙◌, List, length, arith, Some}
+use Rattle.std.proofs.lemmas.Bool.{both_ways, cases_lt}
 use Rattle.std.proofs.lemmas.Option.{slice_get_within, same_Some}
 use Rattle.std.specs.Prelude.{slice_get}
 use Rattle.fleet_base.specs.declared.numbers.ClaimGroup.{ClaimGroup}
 use Rattle.fleet_base.specs.declared.numbers.Event.{Event}
-use Rattle.event_graph.specs.Graphs.{has_waiting}
-use Rattle.merge_op.specs.Rests.{begins_step, IsFirstFree, IsFreeFrom, IsUnawaitedFrom}
+use Rattle.fleet_model.specs.Lists.{In}
+use Rattle.fleet_model.specs.Plans.{own}
+use Rattle.fleet_model.proofs.Numbers.{own_In}
+use Rattle.event_graph.specs.Graphs.{has_waiting, AtNumber}
+use Rattle.merge_op.proofs.Places.{get_In}
+use Rattle.merge_op.specs.Rests.{begins_step, IsFirstFree, IsUnawaitedFrom}
+
+-- an event of a robot is one of all events
+pub own_at : (r : ℕ) (events : List Event) (place : ℕ) (e : Event) → slice_get (own r events) place ≡ Some e → In e events
+own_at r events place e at = (own_In r events (get_In (own r events) place e at)).0
+
+-- what is answered of the number of a robot's event is answered of the event
+pub answered : (groups : List ClaimGroup) (r : ℕ) (events : List Event) (place : ℕ) (e : Event) (answer wanted : Bool) → slice_get (own r events) place ≡ Some e
+    → AtNumber events e.no (λ f. answer ≡ has_waiting groups events f) → answer ≡ wanted → has_waiting groups events e ≡ wanted
+answered groups r events place e answer wanted at is h = sym (is e (own_at r events place e at) refl) ∙ h
 
 module _ (cells : ℕ) (groups : List ClaimGroup) (events mine : List Event) where
   -- how far the scan has come

@@ -1,5 +1,5 @@
 -- The groups of a site's claims, and the robots that keep claims of a group.
-use Rattle.std.proofs.Common.{◌≡◌, ◌≢◌, ℕ, ◌+◌, ◌<◌, ◌≤◌, Bool, true, false, not, ◌&&◌, ◌||◌, ◌==◌, inl, inr, refl, sym, ap, ◌∙◌, List, [], ◌∷◌, ◌++◌, map, length, replicate, arith, eq-eqb, Option, Some, None}
+use Rattle.std.proofs.Common.{◌≡◌, ◌≢◌, ℕ, ◌+◌, ◌<◌, true, false, not, ◌&&◌, ◌||◌, ◌==◌, inl, inr, refl, sym, ap, ◌∙◌, List, [], ◌∷◌, map, replicate, arith, eq-eqb, Option, Some, None}
 use Rattle.std.proofs.lemmas.Bool.{both_ways, and_parts, and_from, not-true, false_from_ne_true, eqb-true, eqb-false, lt-ltb, or_left, or_right}
 use Rattle.std.specs.Prelude.{nat_lt, slice_get}
 use Rattle.std.specs.Ordering.{nat_cmp}
@@ -16,7 +16,7 @@ use Rattle.fleet_model.proofs.Tests.{any_In}
 use Rattle.site_map.specs.Built.{BuiltSite}
 use Rattle.site_map.specs.Claims.{cell_group, claim_total, groups_from, groups_of, is_alone, site_of}
 use Rattle.site_map.specs.Crossings.{BuiltCrossing, claim_count_of, crossing_claims}
-use Rattle.merge_op.specs.Blocked.{is_kept_apart, HasGroupOf, HasTaken}
+use Rattle.merge_op.specs.Blocked.{is_kept_apart, HasTaken}
 use Rattle.merge_op.proofs.Places.{get_In, In_replicate}
 
 -- the groups of crossings are numbered by the first claim of each

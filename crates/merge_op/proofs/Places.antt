@@ -16,13 +16,7 @@ module _ {A : Type 0} where
   In_get (y ∷ ys) x (here e) = (0, ap (λ z. Some z) (sym e))
   In_get (y ∷ ys) x (there m) = let r = In_get ys x m in (suc r.0, r.1)
 
-  -- an element of the front part of two lists joined
-  pub get-append_left : (xs ys : List A) (i : ℕ) → i < length xs → slice_get (xs ++ ys) i ≡ slice_get xs i
-  get-append_left [] ys i h = absurd (omega arith)
-  get-append_left (x ∷ xs) ys zero h = refl
-  get-append_left (x ∷ xs) ys (suc i) h = get-append_left xs ys i (omega arith)
-
-  -- and of the part behind it
+  -- an element of the second part of two lists joined
   pub get-append_right : (xs ys : List A) (i : ℕ) → length xs ≤ i → slice_get (xs ++ ys) i ≡ slice_get ys (i - length xs)
   get-append_right [] ys i h = ap (slice_get ys) (omega arith)
   get-append_right (x ∷ xs) ys zero h = absurd (omega arith)

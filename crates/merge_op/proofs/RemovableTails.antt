@@ -1,29 +1,27 @@
 -- The removable tail of a plan, by the robot's unfinished events.
-use Rattle.std.proofs.Common.{◌≡◌, ℕ, ◌+◌, ◌-◌, ◌<◌, ◌≤◌, Bool, true, false, cond, not, ◌==◌, ◌⊎◌, inl, inr, refl, sym, ap, ◌∙◌, subst, List, [], ◌∷◌, ◌++◌, map, length, take, drop, append_assoc, arith, length-append, length-drop, length-take, Option, Some, None}
+use Rattle.std.proofs.Common.{◌≡◌, ℕ, ◌+◌, ◌-◌, ◌<◌, Bool, true, false, not, ◌==◌, inl, inr, refl, sym, ap, ◌∙◌, subst, List, [], ◌∷◌, ◌++◌, map, length, take, drop, append_assoc, arith, length-append, length-drop, Option, Some, None}
 use Rattle.std.proofs.lemmas.Bool.{both_ways, cases_Bool, false_from_ne_true, not-true, not_from_false}
-use Rattle.std.proofs.lemmas.List.{length-map, map-append, take-append-drop, take-map}
+use Rattle.std.proofs.lemmas.List.{map-append, take-append-drop}
 use Rattle.std.proofs.lemmas.Option.{same_Some, slice_get-map}
 use Rattle.std.proofs.Math.Seq.{take-append_seam}
 use Rattle.std.specs.Prelude.{slice_get}
-use Rattle.std.specs.List.{filter, list_any}
+use Rattle.std.specs.List.{filter}
 use Rattle.std.specs.Option.{option_map}
-use Rattle.fleet_base.specs.declared.numbers.CellNo.{CellNo}
 use Rattle.fleet_base.specs.declared.numbers.ClaimGroup.{ClaimGroup}
 use Rattle.fleet_base.specs.declared.numbers.Event.{Event}
 use Rattle.fleet_base.specs.declared.numbers.Kind.{Kind}
 use Rattle.fleet_model.specs.Lists.{In, here, there}
 use Rattle.fleet_model.specs.Sites.{Site, IsSite}
 use Rattle.fleet_model.specs.Replays.{AreSteps}
-use Rattle.fleet_model.specs.Plans.{Fleet, IsRemovableTail, is_awaited, is_done, kinds, own, removable_tail, unfinished}
+use Rattle.fleet_model.specs.Plans.{Fleet, IsRemovableTail, is_awaited, is_done, own, removable_tail, unfinished}
 use Rattle.fleet_model.specs.Good.{IsAscending, IsGoodPlan}
-use Rattle.fleet_model.proofs.Filters.{filter_all, filter_in, filter_out, filter_swap}
+use Rattle.fleet_model.proofs.Filters.{filter_all, filter_out, filter_swap}
 use Rattle.fleet_model.proofs.Lists.{In_unfilter}
 use Rattle.fleet_model.proofs.Numbers.{IsAscending-own, from_one, low_bound, own_In}
 use Rattle.fleet_model.proofs.Tails.{tail_is, tail_longest}
 use Rattle.fleet_model.proofs.Tests.{any_none, none_any}
 use Rattle.site_map.specs.Built.{BuiltSite}
 use Rattle.site_map.specs.Claims.{site_of}
-use Rattle.event_graph.specs.Graphs.{has_waiting}
 use Rattle.event_graph.proofs.Whole.{awaited_whole, closed, tail_enough, tail_whole}
 use Rattle.merge_op.specs.Rests.{begins_step, IsFirstFree, IsFreeFrom}
 use Rattle.merge_op.proofs.Beginnings.{front_steps, tail_begins}

@@ -1,2 +1,5 @@
 pub mod Kinds
 pub mod Shapes
+pub mod Clashes
+pub mod Holdings
+pub mod Spots

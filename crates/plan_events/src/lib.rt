@@ -2,11 +2,14 @@
 //! the replay of events over holders.
 #![tactic(auto)]
 
+mod clash;
 pub mod expansion;
 pub mod laws;
 pub mod refused;
+pub mod replay;
 pub mod rests;
 pub mod shape;
+mod spots;
 mod steps;
 #[cfg(test)]
 mod tests;

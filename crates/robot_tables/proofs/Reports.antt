@@ -1,11 +1,9 @@
 -- What a report changes in what a fleet tells of its robots.
-use Rattle.std.proofs.Common.{◌≡◌, ℕ, ◌<◌, not, ◌==◌, inl, inr, refl, sym, ap, ◌∙◌, subst, List, [], length, set, Some, arith}
+use Rattle.std.proofs.Common.{◌≡◌, ℕ, ◌<◌, not, ◌==◌, inl, inr, refl, sym, ap, ◌∙◌, subst, [], length, set, Some, arith}
 use Rattle.std.proofs.lemmas.Option.{slice_get-get_or, same_Some}
 use Rattle.std.proofs.lemmas.List.FromFn.{length-map-range_with_len}
-use Rattle.std.specs.Prelude.{slice_get}
 use Rattle.std.specs.List.{filter}
 use Rattle.fleet_base.specs.Lists.{placed}
-use Rattle.fleet_base.specs.declared.numbers.CellNo.{CellNo}
 use Rattle.fleet_base.specs.declared.numbers.ClaimNo.{ClaimNo}
 use Rattle.fleet_base.specs.declared.numbers.Event.{Event}
 use Rattle.fleet_base.specs.declared.numbers.Kind.{Kind}
@@ -15,7 +13,7 @@ use Rattle.fleet_model.specs.Plans.{Fleet, IsBehind, IsReady}
 use Rattle.fleet_model.specs.Deferral.{ends}
 use Rattle.fleet_model.specs.Calls.{reported}
 use Rattle.fleet_model.specs.Good.{IsGoodPlan}
-use Rattle.fleet_model.specs.Tables.{held_by, holdings, places, IsCounted}
+use Rattle.fleet_model.specs.Tables.{held_by, holdings, IsCounted}
 use Rattle.fleet_model.proofs.Blockers.{length-ends}
 use Rattle.fleet_model.proofs.Holdings.{acquired_missing, acquired_room, holdings-acquired, holdings-moved, holdings-released}
 use Rattle.fleet_model.proofs.Reports.{planned_robot}

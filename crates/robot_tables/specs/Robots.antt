@@ -1,5 +1,5 @@
 -- What is known of each robot beside the plan.
-use Rattle.std.specs.Prelude.{ℕ, ◌<◌, not, ◌==◌, ◌≤◌, List, [], length, map, slice_index_or, slice_set, Contains}
+use Rattle.std.specs.Prelude.{ℕ, ◌<◌, not, ◌==◌, List, [], length, map, slice_index_or, slice_set, Contains}
 use Rattle.std.specs.List.{filter}
 use Rattle.fleet_base.specs.Lists.{placed}
 use Rattle.fleet_base.specs.declared.numbers.CellNo.{CellNo}
