@@ -1,24 +1,24 @@
 -- Without a clash the starts may open a run.
-use Rattle.std.proofs.Common.{◌≡◌, ℕ, zero, suc, ◌+◌, ◌<◌, ◌≤◌, ◌≢◌, ◌⊎◌, inl, inr, Bool, true, false, List, [], ◌∷◌, length, map, Option, Some, None, sym, ap, subst, ◌∙◌, refl, arith}
+use Rattle.std.proofs.Common.{◌≡◌, ℕ, zero, suc, ◌+◌, ◌<◌, ◌≤◌, ◌≢◌, inl, inr, Bool, true, false, List, [], ◌∷◌, map, Option, Some, None, ap, subst, refl, arith}
 use Rattle.std.proofs.lemmas.Bool.{both_ways, cases_lt, false_from_ne_true}
 use Rattle.std.proofs.lemmas.List.{length-map}
 use Rattle.std.proofs.lemmas.Option.{same_Some}
 use Rattle.std.specs.Prelude.{slice_get}
-use Rattle.std.specs.List.{filter, find, list_any}
+use Rattle.std.specs.List.{find}
 use Rattle.std.specs.Option.{is_some, option_map}
 use Rattle.fleet_base.specs.declared.numbers.CellNo.{CellNo}
 use Rattle.fleet_base.specs.declared.numbers.ClaimNo.{ClaimNo}
-use Rattle.fleet_model.specs.Lists.{In, first_some}
+use Rattle.fleet_model.specs.Lists.{In}
 use Rattle.fleet_model.specs.Sites.{Site, footprint_of, has_claim, in_conflict, is_kept_from}
 use Rattle.fleet_model.specs.Replays.{opening, start_at}
 use Rattle.fleet_model.specs.Plans.{IsRoute}
-use Rattle.fleet_model.specs.States.{opening_state, pending_of, start_state}
+use Rattle.fleet_model.specs.States.{pending_of, start_state}
 use Rattle.fleet_model.specs.Good.{IsOpening}
 use Rattle.fleet_model.proofs.Blockers.{has_In}
 use Rattle.fleet_model.proofs.Claims.{conflict_symmetric}
 use Rattle.fleet_model.proofs.Options.{map_none}
 use Rattle.fleet_model.proofs.Tests.{In_any, In_found}
-use Rattle.coordinator.specs.Openings.{clash_by, clash_from, clash_with, kept_claim, opening_cause}
+use Rattle.coordinator.specs.Openings.{clash_by, clash_from, clash_with, kept_claim}
 use Rattle.coordinator.proofs.OpeningShown.{none_owed, none_pending}
 use Rattle.coordinator.proofs.Proposed.{first_parts}
 

@@ -1,8 +1,6 @@
 -- What deferrals show, once a pending route or an end has changed.
-use Rattle.std.proofs.Common.{◌≡◌, ℕ, zero, suc, ◌∷◌, arith, ◌<◌, Bool, ◌==◌, inl, inr, refl, sym, ap, subst, ◌∙◌, List, [], length, get_or, set, Option, Some, None, get_or-set_same, get_or-set_other}
+use Rattle.std.proofs.Common.{◌≡◌, ℕ, zero, suc, ◌∷◌, arith, ◌<◌, ◌==◌, inl, inr, refl, sym, ap, subst, ◌∙◌, List, [], length, get_or, set, Option, Some, None, get_or-set_same, get_or-set_other}
 use Rattle.std.proofs.lemmas.Bool.{cases_eq}
-use Rattle.std.proofs.lemmas.List.{length-set}
-use Rattle.std.proofs.lemmas.Option.{slice_get-get_or}
 use Rattle.std.specs.Prelude.{slice_get}
 use Rattle.std.specs.List.{list_any}
 use Rattle.std.specs.Option.{option_map, unwrap_or}
@@ -14,7 +12,7 @@ use Rattle.fleet_model.specs.States.{State}
 use Rattle.fleet_model.specs.States as model
 use Rattle.fleet_model.specs.Calls.{moved}
 use Rattle.deferral.specs.declared.pending.Pending.{Pending}
-use Rattle.deferral.specs.Backlogs.{Backlog, end_claims, is_needed, pending_of, route_of}
+use Rattle.deferral.specs.Backlogs.{Backlog, is_needed, pending_of, route_of}
 use Rattle.deferral.specs.Laws.{Shows}
 
 set_there : {A : Type 0} (xs : List A) (r : ℕ) (a : A) → r < length xs → slice_get (set xs r a) r ≡ Some a

@@ -1,5 +1,5 @@
 -- The cycle that is found over the tables is the state's.
-use Rattle.std.proofs.Common.{◌≡◌, ℕ, ◌<◌, Bool, true, List, [], ◌∷◌, length, map, sym, ap, ◌∙◌, refl}
+use Rattle.std.proofs.Common.{◌≡◌, ℕ, ◌<◌, true, List, [], ◌∷◌, length, sym, ap, ◌∙◌, refl}
 use Rattle.fleet_base.specs.EdgeSets.{leads}
 use Rattle.fleet_base.specs.Lists.{numbers_of, robots_of}
 use Rattle.fleet_base.specs.declared.numbers.RobotNo.{RobotNo}

@@ -1,6 +1,6 @@
 -- A deferral, over the tables.
-use Rattle.std.proofs.Common.{◌≡◌, ℕ, ◌+◌, ◌<◌, ◌≤◌, ◌==◌, ◌⊎◌, inl, false, List, [], ◌∷◌, ◌++◌, length, Option, Some, None, sym, ap, subst, ◌∙◌, refl, arith}
-use Rattle.std.specs.Prelude.{Err, Ok, Result, Vec, vec_len}
+use Rattle.std.proofs.Common.{◌≡◌, ℕ, ◌+◌, ◌≤◌, ◌==◌, inl, false, List, [], ◌∷◌, ◌++◌, Some, None, sym, ap, subst, ◌∙◌, arith}
+use Rattle.std.specs.Prelude.{Ok, Vec, vec_len}
 use Rattle.std.specs.Vec.{vec_capacity}
 use Rattle.std.specs.Global.{Global}
 use Rattle.std.specs.List.{list_any}
@@ -21,7 +21,6 @@ use Rattle.fleet_model.specs.States.{State, block_of, cycle_of, is_full}
 use Rattle.fleet_model.specs.Calls.{Propose, Step, accepted, deferring, propose}
 use Rattle.fleet_model.specs.Good.{IsGood}
 use Rattle.fleet_model.proofs.Turns.{call_good}
-use Rattle.deferral.specs.declared.pending.Pending.{Pending}
 use Rattle.merge_op.specs.declared.blockers.Blocker.{Blocker}
 use Rattle.merge_op.specs.Blocked.{IsSetOf}
 use Rattle.site_map.specs.Claims.{site_of}

@@ -1,6 +1,6 @@
 -- A coordinator is kept by an accepted call whose state its tables show.
 use Rattle.std.proofs.Common.{◌≡◌, ℕ, Bool, true, ◌+◌, ◌<◌, ◌≤◌, List, [], ◌∷◌, ◌++◌, length, Option, Some, None, sym, ap, subst, ◌∙◌, arith, refl}
-use Rattle.std.specs.Prelude.{Vec, vec_len, slice_get}
+use Rattle.std.specs.Prelude.{Vec, vec_len}
 use Rattle.std.specs.Vec.{vec_capacity}
 use Rattle.std.specs.Global.{Global}
 use Rattle.std.specs.Option.{is_some}

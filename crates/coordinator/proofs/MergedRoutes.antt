@@ -1,5 +1,5 @@
 -- A merge that a call makes, over the tables.
-use Rattle.std.proofs.Common.{◌≡◌, ℕ, zero, suc, ◌+◌, ◌*◌, ◌<◌, ◌≤◌, ◌==◌, true, List, [], ◌∷◌, ◌++◌, length, map, Option, Some, None, sym, ap, subst, ◌∙◌, refl, arith}
+use Rattle.std.proofs.Common.{◌≡◌, ℕ, zero, suc, ◌+◌, ◌<◌, ◌≤◌, List, [], ◌∷◌, ◌++◌, length, Some, sym, ap, subst, ◌∙◌, refl, arith}
 use Rattle.std.proofs.lemmas.List.{length-append, length-map}
 use Rattle.std.proofs.lemmas.List.Elements.{All-head, All-tail}
 use Rattle.std.proofs.lemmas.List.FromFn.{length-map-range_with_len}
@@ -11,18 +11,13 @@ use Rattle.fleet_base.specs.declared.entries.Act.{Act}
 use Rattle.fleet_base.specs.declared.entries.Entry.{Entry}
 use Rattle.fleet_base.specs.declared.numbers.CellNo.{CellNo}
 use Rattle.fleet_base.specs.declared.numbers.ClaimGroup.{ClaimGroup}
-use Rattle.fleet_base.specs.declared.numbers.ClaimNo.{ClaimNo}
-use Rattle.fleet_base.specs.declared.numbers.Event.{Event}
 use Rattle.fleet_base.specs.declared.numbers.Kind.{Kind}
-use Rattle.fleet_base.specs.declared.numbers.Kind.TheVariants.{Acquire, Move, Release}
 use Rattle.fleet_model.specs.Lists.{In}
-use Rattle.fleet_model.specs.Sites.{Site, IsSite, cell_count, footprint_of, has_claim, last_cell, step, steps, steps_from, without}
+use Rattle.fleet_model.specs.Sites.{IsSite, cell_count, footprint_of, last_cell, steps}
 use Rattle.fleet_model.specs.Plans.{Fleet, end_of, merged, numbered, unfinished}
-use Rattle.fleet_model.specs.Deferral.{ends}
-use Rattle.fleet_model.specs.States.{State, owed}
-use Rattle.fleet_model.specs.Calls.{turn, with_route}
+use Rattle.fleet_model.specs.States.{State}
+use Rattle.fleet_model.specs.Calls.{with_route}
 use Rattle.fleet_model.specs.Good.{IsGood, IsGoodPlan}
-use Rattle.fleet_model.specs.Tables.{IsCounted}
 use Rattle.fleet_model.proofs.Accepted.{start_of}
 use Rattle.fleet_model.proofs.Blockers.{ends_within, has_In, length-ends}
 use Rattle.fleet_model.proofs.Numbered.{length-numbered}
@@ -42,7 +37,7 @@ use Rattle.coordinator.specs.Changes.{IsSettled, IsTold}
 use Rattle.coordinator.specs.Kept.{IsKept, Shows}
 use Rattle.coordinator.specs.Merging.{WouldMerge}
 use Rattle.coordinator.proofs.EndCells.{end_known, last_known}
-use Rattle.coordinator.proofs.KeptNext.{counted_is, good, kept_next, robot_is, site_is, state}
+use Rattle.coordinator.proofs.KeptNext.{counted_is, good, kept_next, site_is, state}
 use Rattle.coordinator.proofs.Transitions.{settled_shown}
 
 pub all_at : {A : Type 0} (P : A → Type 0) (xs : List A) (i : ℕ) (x : A) → All P xs → slice_get xs i ≡ Some x → P x

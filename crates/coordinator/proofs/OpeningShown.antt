@@ -1,23 +1,18 @@
 -- The tables of an opening.
-use Rattle.std.proofs.Common.{◌≡◌, ℕ, zero, suc, ◌+◌, ◌<◌, ◌==◌, inl, inr, List, [], ◌∷◌, length, map, get_or, replicate, Option, Some, None, sym, ap, subst, ◌∙◌, refl, arith}
+use Rattle.std.proofs.Common.{◌≡◌, ℕ, zero, suc, ◌==◌, inl, inr, List, [], ◌∷◌, length, map, get_or, replicate, Option, None, sym, ap, subst, ◌∙◌, refl, arith}
 use Rattle.std.proofs.lemmas.Bool.{cases_lt}
-use Rattle.std.proofs.lemmas.List.{get_or-map, get_or-replicate, get_or_past, length-map, length-replicate}
-use Rattle.std.proofs.lemmas.Option.{slice_get-get_or, slice_get_past}
+use Rattle.std.proofs.lemmas.List.{get_or-replicate, get_or_past, length-map, length-replicate}
 use Rattle.std.specs.Prelude.{slice_get}
 use Rattle.std.specs.List.{filter, list_any}
 use Rattle.std.specs.Option.{is_some, option_map, unwrap_or}
 use Rattle.fleet_base.specs.declared.numbers.CellNo.{CellNo}
-use Rattle.fleet_base.specs.declared.numbers.ClaimNo.{ClaimNo}
 use Rattle.fleet_model.specs.Sites.{Site, IsSite, footprint_of, needs}
-use Rattle.fleet_model.specs.Deferral.{ends}
-use Rattle.fleet_model.specs.States.{State, owed, start_state}
-use Rattle.fleet_model.specs.States as model
+use Rattle.fleet_model.specs.States.{State, start_state}
 use Rattle.fleet_model.specs.Tables.{IsCounted}
 use Rattle.fleet_model.proofs.Holdings.{holdings-opening}
 use Rattle.fleet_model.proofs.Tables.{ends-opening, places-opening}
-use Rattle.robot_tables.specs.Robots.{Robots, robots_of}
 use Rattle.deferral.specs.declared.pending.Pending.{Pending}
-use Rattle.deferral.specs.Backlogs.{Backlog, end_claims, is_needed, pending_of, route_of}
+use Rattle.deferral.specs.Backlogs.{Backlog, is_needed}
 use Rattle.deferral.specs.Laws as deferrals
 use Rattle.coordinator.specs.declared.tables.Tables.{Tables}
 use Rattle.coordinator.specs.Kept.{Shows}

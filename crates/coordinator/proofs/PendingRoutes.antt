@@ -1,14 +1,14 @@
 -- Pending routes and their blockers, over the tables.
-use Rattle.std.proofs.Common.{◌≡◌, ℕ, ◌<◌, ◌≤◌, List, [], ◌∷◌, length, map, get_or, Option, Some, None, sym, ap, subst, ◌∙◌, refl, arith}
+use Rattle.std.proofs.Common.{◌≡◌, ℕ, ◌<◌, ◌≤◌, List, [], ◌∷◌, length, get_or, Option, Some, None, sym, ap, subst, ◌∙◌, refl, arith}
 use Rattle.std.proofs.lemmas.Option.{slice_get-get_or}
-use Rattle.std.specs.Prelude.{All, slice_get}
+use Rattle.std.specs.Prelude.{All}
 use Rattle.std.specs.Option.{option_map}
 use Rattle.fleet_base.specs.Lists.{robots_of}
 use Rattle.fleet_base.specs.declared.answers.Block.{Block}
 use Rattle.fleet_base.specs.declared.numbers.CellNo.{CellNo}
 use Rattle.fleet_base.specs.declared.numbers.ClaimNo.{ClaimNo}
 use Rattle.fleet_base.specs.declared.numbers.RobotNo.{RobotNo}
-use Rattle.fleet_model.specs.Sites.{Site, cell_count, needs}
+use Rattle.fleet_model.specs.Sites.{cell_count, needs}
 use Rattle.fleet_model.specs.Plans.{IsRoute, end_of}
 use Rattle.fleet_model.specs.Deferral.{ends, least_blocker}
 use Rattle.fleet_model.specs.States.{State, block_of, cycle_of, pending_of}

@@ -1,5 +1,5 @@
 -- Proposals that are accepted.
-use Rattle.std.proofs.Common.{not, drop, ◌≡◌, ℕ, ◌+◌, ◌-◌, ◌<◌, Bool, false, List, [], ◌∷◌, ◌++◌, length, get_or, Option, Some, None, sym, ap, subst, ◌∙◌, refl, arith}
+use Rattle.std.proofs.Common.{not, drop, ◌≡◌, ℕ, ◌+◌, ◌-◌, ◌<◌, false, List, [], ◌∷◌, ◌++◌, length, get_or, Option, Some, None, sym, ap, subst, ◌∙◌, refl}
 use Rattle.std.proofs.lemmas.Bool.{ltb-true, not-false}
 use Rattle.std.specs.Option.{is_some}
 use Rattle.fleet_base.specs.declared.answers.Block.{Block}
@@ -7,7 +7,6 @@ use Rattle.fleet_base.specs.declared.answers.ProposeRefused.{ProposeRefused}
 use Rattle.fleet_base.specs.declared.answers.ProposeRefused.TheVariants as refused
 use Rattle.fleet_base.specs.declared.answers.Proposed.{Proposed}
 use Rattle.fleet_base.specs.declared.answers.Proposed.TheVariants as proposed
-use Rattle.fleet_base.specs.declared.entries.Act.{Act}
 use Rattle.fleet_base.specs.declared.entries.Act.TheVariants.{Merged}
 use Rattle.fleet_base.specs.declared.entries.Act.TheVariants as act
 use Rattle.fleet_base.specs.declared.entries.Entry.{Entry}

@@ -1,7 +1,7 @@
 -- A report of a robot's next event.
-use Rattle.std.proofs.Common.{◌≡◌, ℕ, zero, ◌+◌, ◌<◌, ◌≤◌, ◌==◌, true, List, [], ◌∷◌, ◌++◌, length, Option, Some, None, sym, ap, subst, ◌∙◌, refl, arith, eq-eqb}
+use Rattle.std.proofs.Common.{◌≡◌, ℕ, ◌+◌, ◌<◌, List, [], ◌∷◌, ◌++◌, length, Option, Some, None, sym, ap, subst, ◌∙◌, refl, arith, eq-eqb}
 use Rattle.std.proofs.lemmas.Bool.{lt-ltb}
-use Rattle.std.specs.Prelude.{Vec, vec_len, slice_get, Err, Ok}
+use Rattle.std.specs.Prelude.{Vec, vec_len, slice_get, Err}
 use Rattle.std.specs.Vec.{vec_capacity}
 use Rattle.std.specs.Global.{Global}
 use Rattle.fleet_base.specs.declared.answers.ReportRefused.{ReportRefused}
@@ -12,7 +12,7 @@ use Rattle.fleet_base.specs.declared.numbers.ClaimGroup.{ClaimGroup}
 use Rattle.fleet_base.specs.declared.numbers.Event.{Event}
 use Rattle.fleet_base.specs.declared.numbers.EventNo.{EventNo}
 use Rattle.fleet_model.specs.Lists.{In, here}
-use Rattle.fleet_model.specs.Plans.{Fleet, IsBehind, IsReady, own, unfinished}
+use Rattle.fleet_model.specs.Plans.{IsBehind, IsReady, own}
 use Rattle.fleet_model.specs.States.{State}
 use Rattle.fleet_model.specs.Calls.{Report, Step, accepted, next_event, report, reported, waits_on}
 use Rattle.fleet_model.proofs.Accepted.{next_ready}

@@ -1,8 +1,7 @@
 -- A retry that no refusal fits, and one of a robot that isn't there.
-use Rattle.std.proofs.Common.{◌≡◌, ℕ, ◌+◌, ◌-◌, ◌<◌, ◌≤◌, false, List, [], ◌∷◌, length, get_or, Option, Some, None, sym, ap, subst, ◌∙◌, refl, arith}
+use Rattle.std.proofs.Common.{◌≡◌, ℕ, ◌-◌, ◌<◌, ◌≤◌, false, List, [], ◌∷◌, length, get_or, Some, None, ap, ◌∙◌, refl, arith}
 use Rattle.std.proofs.lemmas.Bool.{le-ltb, lt-ltb}
 use Rattle.std.specs.Prelude.{Err}
-use Rattle.fleet_base.specs.declared.answers.RetryRefused.{RetryRefused}
 use Rattle.fleet_base.specs.declared.answers.RetryRefused.TheVariants as refused
 use Rattle.fleet_base.specs.declared.entries.Act.{Act}
 use Rattle.fleet_base.specs.declared.entries.Act.TheVariants as act
@@ -11,7 +10,7 @@ use Rattle.fleet_base.specs.declared.numbers.Kind.{Kind}
 use Rattle.fleet_model.specs.Sites.{last_cell, steps}
 use Rattle.fleet_model.specs.Plans.{IsRoute}
 use Rattle.fleet_model.specs.States.{State, block_of, is_full, pending_of}
-use Rattle.fleet_model.specs.Calls.{Call, Retry, accepted, first_of, retry, span_of, turn, with_route}
+use Rattle.fleet_model.specs.Calls.{Call, accepted, first_of, retry, span_of, turn, with_route}
 use Rattle.coordinator.specs.Books.{IsAnswer}
 use Rattle.coordinator.specs.Merging.{WouldMerge}
 

@@ -1,5 +1,5 @@
 -- Legal routes have a shape, and need claims of the site.
-use Rattle.std.proofs.Common.{◌≡◌, ℕ, zero, suc, ◌+◌, ◌<◌, ◌≤◌, ◌==◌, true, false, nat_lt, List, [], ◌∷◌, ◌++◌, length, map, Option, Some, None, sym, ap, subst, ◌∙◌, refl, arith}
+use Rattle.std.proofs.Common.{◌≡◌, ℕ, zero, suc, ◌+◌, ◌<◌, ◌≤◌, true, List, [], ◌∷◌, length, None, sym, ◌∙◌, refl, arith}
 use Rattle.std.proofs.lemmas.List.Elements.{All-cons, All-nil}
 use Rattle.std.specs.Prelude.{All}
 use Rattle.std.specs.Ordering.{nat_cmp}
@@ -7,11 +7,8 @@ use Rattle.std.specs.FinSet as set
 use Rattle.fleet_base.specs.declared.numbers.CellNo.{CellNo}
 use Rattle.fleet_base.specs.declared.numbers.ClaimNo.{ClaimNo}
 use Rattle.fleet_base.specs.declared.numbers.Kind.TheVariants.{Acquire}
-use Rattle.fleet_model.specs.Lists.{first_some, when}
-use Rattle.fleet_model.specs.Sites.{Site, IsSite, IsWalk, IsWalkFrom, cell_count, footprint_of, has_claim, is_linked, needs, steps}
-use Rattle.fleet_model.specs.Plans.{IsRoute, end_of}
-use Rattle.fleet_model.specs.States.{State}
-use Rattle.fleet_model.specs.Calls.{first_unlinked, unknown_at, unlinked_at}
+use Rattle.fleet_model.specs.Sites.{Site, IsSite, IsWalk, IsWalkFrom, cell_count, footprint_of, has_claim, needs, steps}
+use Rattle.fleet_model.specs.Calls.{first_unlinked}
 use Rattle.fleet_model.specs.Tables.{IsCounted}
 use Rattle.fleet_model.proofs.Blockers.{has_In}
 use Rattle.fleet_model.proofs.Shortcuts.{link_within}

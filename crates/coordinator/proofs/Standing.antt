@@ -1,11 +1,10 @@
 -- An accepted call leads to a state of the book with its entry.
-use Rattle.std.proofs.Common.{◌≡◌, ℕ, ◌+◌, arith, List, [], ◌∷◌, ◌++◌, length, Some, sym, ap, subst, ◌∙◌, refl}
+use Rattle.std.proofs.Common.{◌≡◌, ℕ, arith, List, [], ◌∷◌, ◌++◌, Some, sym, ap, subst, ◌∙◌, refl}
 use Rattle.std.proofs.lemmas.List.{length-append}
 use Rattle.fleet_base.specs.declared.entries.Entry.{Entry}
 use Rattle.fleet_model.specs.Sites.{IsSite}
 use Rattle.fleet_model.specs.States.{State}
 use Rattle.fleet_model.specs.Calls.{Call, turn}
-use Rattle.fleet_model.specs.Good.{IsGood}
 use Rattle.fleet_model.specs.Journals.{IsJournal, state_after, turn_at}
 use Rattle.fleet_model.proofs.Accepted.{accepts}
 use Rattle.fleet_model.proofs.Changes.{Accepts, Change, Cut, Did, Dropped, Grew, Kept, changed_cap, changed_count, changed_site, changed_starts, changed}

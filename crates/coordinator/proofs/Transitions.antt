@@ -1,13 +1,12 @@
 -- The tables follow the state: each change of them shows the state that the change leaves.
-use Rattle.std.proofs.Common.{◌≡◌, ℕ, ◌+◌, ◌<◌, ◌≤◌, Bool, false, ◌==◌, refl, sym, ap, subst, ◌∙◌, List, [], ◌∷◌, ◌++◌, length, set, Option, Some, None, arith}
+use Rattle.std.proofs.Common.{◌≡◌, ℕ, ◌+◌, ◌<◌, ◌≤◌, refl, sym, ap, subst, ◌∙◌, List, ◌∷◌, ◌++◌, length, set, Option, Some, None, arith}
 use Rattle.std.proofs.lemmas.List.{length-set}
 use Rattle.std.proofs.lemmas.List.FromFn.{length-map-range_with_len}
-use Rattle.std.specs.List.{list_any}
 use Rattle.std.specs.Option.{option_map}
 use Rattle.fleet_base.specs.declared.numbers.CellNo.{CellNo}
 use Rattle.fleet_base.specs.declared.numbers.ClaimNo.{ClaimNo}
 use Rattle.fleet_base.specs.declared.numbers.Event.{Event}
-use Rattle.fleet_model.specs.Sites.{IsSite, footprint_of, last_cell, needs, steps}
+use Rattle.fleet_model.specs.Sites.{IsSite, footprint_of, last_cell, steps}
 use Rattle.fleet_model.specs.Plans.{IsBehind, IsReady, end_of, merged, numbered, removable_tail, unfinished, withdrawn}
 use Rattle.fleet_model.specs.Deferral.{ends}
 use Rattle.fleet_model.specs.States.{State, owed}

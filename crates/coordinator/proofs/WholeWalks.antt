@@ -1,7 +1,7 @@
 -- Where a robot ends, by where it is and by its unfinished events.
-use Rattle.std.proofs.Common.{inl, inr, Option, None, ◌≡◌, ℕ, ◌+◌, ◌-◌, ◌<◌, ◌≤◌, ◌==◌, true, false, not, List, [], ◌∷◌, ◌++◌, length, map, take, get_or, sym, ap, subst, ◌∙◌, refl, arith, Some}
-use Rattle.std.proofs.lemmas.Bool.{both_ways, cases_lt, false_from_ne_true, not_from_false}
-use Rattle.std.proofs.lemmas.List.{append-nil, length-append, map-append, take-append-le, take_all}
+use Rattle.std.proofs.Common.{inl, inr, Option, None, ◌≡◌, ℕ, ◌+◌, ◌≤◌, ◌==◌, false, not, List, [], ◌∷◌, ◌++◌, length, map, take, sym, ap, subst, ◌∙◌, refl, arith, Some}
+use Rattle.std.proofs.lemmas.Bool.{cases_lt, false_from_ne_true, not_from_false}
+use Rattle.std.proofs.lemmas.List.{append-nil, map-append, take_all}
 use Rattle.std.proofs.lemmas.List.Elements.{filter-append}
 use Rattle.std.proofs.lemmas.Option.{slice_get-get_or}
 use Rattle.std.specs.Prelude.{slice_get}

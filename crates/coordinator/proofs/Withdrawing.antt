@@ -1,5 +1,5 @@
 -- A withdrawal, over the tables.
-use Rattle.std.proofs.Common.{inl, inr, ◌≡◌, ℕ, ◌+◌, ◌-◌, ◌<◌, ◌≤◌, ◌==◌, false, List, [], ◌∷◌, ◌++◌, length, map, take, Option, Some, None, sym, ap, subst, ◌∙◌, refl, arith}
+use Rattle.std.proofs.Common.{inl, inr, ◌≡◌, ℕ, ◌+◌, ◌-◌, ◌<◌, ◌≤◌, List, [], ◌∷◌, ◌++◌, length, map, take, Option, Some, None, sym, ap, subst, ◌∙◌, refl, arith}
 use Rattle.std.proofs.lemmas.Bool.{cases_lt, lt-ltb, ne_eqb}
 use Rattle.std.proofs.lemmas.List.{length-append}
 use Rattle.std.specs.Prelude.{Ok, Vec, vec_len}
@@ -11,13 +11,11 @@ use Rattle.fleet_base.specs.declared.answers.Withdrawn.{Withdrawn}
 use Rattle.fleet_base.specs.declared.entries.Act.TheVariants as act
 use Rattle.fleet_base.specs.declared.entries.Entry.{Entry}
 use Rattle.fleet_base.specs.declared.numbers.CellNo.{CellNo}
-use Rattle.fleet_base.specs.declared.numbers.ClaimGroup.{ClaimGroup}
 use Rattle.fleet_base.specs.declared.numbers.Event.{Event}
 use Rattle.fleet_model.specs.Sites.{footprint_of, last_cell, moved_to}
 use Rattle.fleet_model.specs.Plans.{Fleet, IsRemovableTail, cell_of, end_of, own, removable_tail, unfinished, withdrawn}
 use Rattle.fleet_model.specs.States.{State}
 use Rattle.fleet_model.specs.Calls.{Step, Withdraw, accepted, moved, withdraw}
-use Rattle.fleet_model.specs.Good.{IsGoodPlan}
 use Rattle.fleet_model.proofs.Room.{cut_both_owes, cut_owes}
 use Rattle.std.proofs.Math.Seq.{take-append_seam}
 use Rattle.fleet_model.proofs.Tables.{own_before}

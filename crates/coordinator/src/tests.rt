@@ -1,15 +1,12 @@
 //! Runs of robots at a junction, in the middle of which, cell 1, three lanes meet.
 
-ghost use Rattle.std.specs.Prelude.{◌≡◌, IfOk};
-
 use crate::coordinator::Coordinator;
 use crate::refused::NewRefused;
 use fleet_base::answers::{
-    Block, CancelRefused, EventLook, Look, PendingLook, ProposeRefused, Proposed, ReportRefused,
+    Block, CancelRefused, EventLook, PendingLook, ProposeRefused, Proposed, ReportRefused,
     RetryRefused, UnknownRobot, WithdrawRefused, Withdrawn,
 };
 use fleet_base::numbers::{CellNo, ClaimNo, EventNo, Kind, RobotNo, Span};
-use fleet_base::robot_list::RobotList;
 use site_map::builder::SiteBuilder;
 use site_map::refused::BuildRefused;
 use site_map::site::Site;
@@ -44,6 +41,11 @@ fn check_merged(
         last: EventNo(last),
     };
     assert_eq!(rt; fleet.propose(robot, route), Ok(Proposed::Merged(span)));
+}
+
+// Robot 0 blocks the junction, and there is no cycle.
+fn is_by_first(block: Block) -> bool {
+    block.claim == ClaimNo(1) && block.by == RobotNo(0) && block.cycle.len() == 0
 }
 
 // The robot reports these events.
@@ -109,21 +111,14 @@ fn deferred_route_is_retried(rt: HostRuntime) -> Result<(), Fail> {
     let mut fleet = Coordinator::new(rt.alloc(), site, &[CellNo(0), CellNo(2)], 1_000_000)?;
     let (first, second) = (RobotNo(0), RobotNo(1));
     check_merged(&rt, &mut fleet, first, &[CellNo(0), CellNo(1)], 1, 3);
-    let block = Block {
-        claim: ClaimNo(1),
-        by: first,
-        cycle: RobotList::new(),
-    };
     let deferred = fleet.propose(second, &[CellNo(2), CellNo(1)]);
-    assert_eq!(rt; deferred, Ok(Proposed::Deferred(block)));
+    assert!(rt; matches!(deferred, Ok(Proposed::Deferred(block)) if is_by_first(block)));
     let again = fleet.propose(second, &[CellNo(2), CellNo(1)]);
     assert_eq!(rt; again, Err(ProposeRefused::HasPending));
-    assert_eq!(rt;
-        fleet.retry(second),
-        Err(RetryRefused::StillDeferred(block))
-    );
+    let still = fleet.retry(second);
+    assert!(rt; matches!(still, Err(RetryRefused::StillDeferred(block)) if is_by_first(block)));
     let look = fleet.look(second).map(|look| look.pending);
-    assert_eq!(rt; look, Ok(PendingLook::Blocked(block)));
+    assert!(rt; matches!(look, Ok(PendingLook::Blocked(block)) if is_by_first(block)));
     check_merged(&rt, &mut fleet, first, &[CellNo(1), CellNo(0)], 4, 6);
     let span = Span {
         first: EventNo(7),
@@ -183,21 +178,37 @@ fn events_are_taken_back(rt: HostRuntime) -> Result<(), Fail> {
         CellNo(1),
         &[ClaimNo(0), ClaimNo(1)],
     );
-    assert!(rt; first.0 < fleet.robots());
-    assert_eq!(rt; fleet.left(first), 2);
-    let next = fleet.unfinished(first, 0).map(|event| event.kind);
-    assert_eq!(rt; next, Some(Kind::Move(CellNo(0), CellNo(1))));
-    let look = fleet.look(first).map(|look| look.event);
-    let ready = EventLook::Ready {
-        event: EventNo(2),
-        kind: Kind::Move(CellNo(0), CellNo(1)),
-    };
-    assert_eq!(rt; look, Ok(ready));
     check_merged(&rt, &mut fleet, first, &[CellNo(1), CellNo(2)], 7, 9);
-    assert_eq!(rt;
-        fleet.report(second, EventNo(1)),
-        Err(ReportRefused::NotNext { next: None })
-    );
+    let unknown = ReportRefused::NotNext { next: None };
+    assert_eq!(rt; fleet.report(second, EventNo(1)), Err(unknown));
+    Ok(())
+}
+
+// The robot's next event is ready, is its move from cell 0 to cell 1, and others are behind it.
+fn check_next(rt: &impl Abort, fleet: &Coordinator, robot: RobotNo, number: u64, left: u32) {
+    assert!(rt; robot.0 < fleet.robots());
+    assert_eq!(rt; fleet.left(robot), left);
+    let kind = Kind::Move(CellNo(0), CellNo(1));
+    let next = fleet.unfinished(robot, 0);
+    assert!(rt; matches!(next, Some(event) if event.no.0 == number && event.kind == kind));
+    let event = EventNo(number);
+    let look = fleet.look(robot);
+    assert!(rt; matches!(look, Ok(look) if look.event == EventLook::Ready { event, kind }));
+}
+
+#[test]
+fn next_event_is_seen(rt: HostRuntime) -> Result<(), Fail> {
+    let site = junction(rt.alloc())?;
+    assert!(rt; site.cell_count() == 4);
+    let mut fleet = Coordinator::new(rt.alloc(), site, &[CellNo(0)], 1_000_000)?;
+    let only = RobotNo(0);
+    check_merged(&rt, &mut fleet, only, &[CellNo(0), CellNo(1)], 1, 3);
+    check_reports(&rt, &mut fleet, only, 1, 1);
+    check_next(&rt, &fleet, only, 2, 2);
+    assert_eq!(rt; fleet.cap(), 1_000_000);
+    assert!(rt; only.0 < fleet.robots());
+    assert_eq!(rt; fleet.start(only), CellNo(0));
+    assert_eq!(rt; fleet.site().cell_count(), 4);
     Ok(())
 }
 

@@ -1,4 +1,4 @@
-use Rattle.std.proofs.Common.{◌≡◌, ◌+◌, ◌≤◌, [], ◌∷◌, ◌++◌, take, ap, sym, ◌∙◌, arith}
+use Rattle.std.proofs.Common.{[], ◌∷◌, ◌++◌, ap, sym, ◌∙◌, arith}
 use Rattle.coordinator.proofs.Searches.{take_next}
 use Rattle.site_map.specs.Claims.{groups_of}
 use Rattle.coordinator.proofs.opening.groups_of.Goals as goal

@@ -1,4 +1,4 @@
-use Rattle.std.proofs.Common.{◌≡◌, length, map, replicate, None, ap, sym, ◌∙◌, refl}
+use Rattle.std.proofs.Common.{length, map, replicate, None, ap, ◌∙◌, refl}
 use Rattle.fleet_base.specs.declared.numbers.ClaimGroup.{ClaimGroup}
 use Rattle.fleet_model.specs.Sites.{footprint_of}
 use Rattle.site_map.specs.Claims.{site_of}

@@ -1,4 +1,4 @@
-use Rattle.std.proofs.Common.{◌≡◌, ℕ, ◌<◌, length, List, Some, Option, ap, sym, subst, ◌∙◌, arith}
+use Rattle.std.proofs.Common.{◌≡◌, ◌<◌, length, ap, sym, subst, ◌∙◌, arith}
 use Rattle.coordinator.specs.Books.{Book, state_of}
 use Rattle.coordinator.proofs.KeptNext.{robot_is, state}
 use Rattle.coordinator.proofs.MergedRoutes.{tables_known}

@@ -1,6 +1,6 @@
-use Rattle.std.proofs.Common.{◌≡◌, ℕ, ◌+◌, ◌<◌, length, Some, ap, sym, subst, ◌∙◌, arith}
+use Rattle.std.proofs.Common.{◌<◌, length, ap, sym, subst, arith}
 use Rattle.fleet_base.specs.declared.entries.Act.TheVariants.{Canceled}
-use Rattle.fleet_model.specs.Calls.{Cancel, moved}
+use Rattle.fleet_model.specs.Calls.{Cancel}
 use Rattle.fleet_model.proofs.Room.{drop_owes}
 use Rattle.coordinator.specs.Books.{Book}
 use Rattle.coordinator.specs.Kept.{Shows}

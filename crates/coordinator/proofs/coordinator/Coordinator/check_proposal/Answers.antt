@@ -1,6 +1,5 @@
-use Rattle.std.proofs.Common.{◌≡◌, ℕ, ◌<◌, true, false, length, Option, Some, None, ap, sym, subst, ◌∙◌, arith}
-use Rattle.std.specs.Prelude.{Err, Ok, Result}
-use Rattle.fleet_base.specs.declared.answers.ProposeRefused.{ProposeRefused}
+use Rattle.std.proofs.Common.{◌≡◌, ◌<◌, true, false, length, ap, sym, subst, ◌∙◌, arith}
+use Rattle.std.specs.Prelude.{Err, Ok}
 use Rattle.fleet_base.specs.declared.answers.ProposeRefused.TheVariants as refused
 use Rattle.fleet_model.specs.Sites.{steps}
 use Rattle.plan_events.specs.Shapes as shapes

@@ -1,4 +1,4 @@
-use Rattle.std.proofs.Common.{◌≡◌, ℕ, ◌+◌, ◌≤◌, false, [], ◌∷◌, ◌++◌, Some, None, ap, sym, subst, ◌∙◌, arith}
+use Rattle.std.proofs.Common.{◌≡◌, false, [], ◌∷◌, ◌++◌, Some, None, ap, sym, subst, ◌∙◌, arith}
 use Rattle.fleet_base.specs.declared.entries.Act.TheVariants as act
 use Rattle.fleet_model.specs.Sites.{needs}
 use Rattle.fleet_model.specs.States.{block_of, is_full}

@@ -1,8 +1,5 @@
-use Rattle.std.proofs.Common.{◌≡◌, ℕ, ◌<◌, length, Option, Some, None, ap, sym, subst, ◌∙◌, refl, arith}
-use Rattle.std.specs.Prelude.{slice_get}
+use Rattle.std.proofs.Common.{◌≡◌, ◌<◌, length, ap, sym, subst, ◌∙◌, refl, arith}
 use Rattle.fleet_base.specs.declared.answers.EventLook.TheVariants.{Ready, Waits}
-use Rattle.fleet_base.specs.declared.numbers.Event.{Event}
-use Rattle.fleet_model.specs.Plans.{own}
 use Rattle.fleet_model.specs.Calls.{look_at_event, look_at_next, next_event}
 use Rattle.coordinator.specs.Books.{Book, state_of}
 use Rattle.coordinator.proofs.KeptNext.{state}

@@ -1,4 +1,4 @@
-use Rattle.std.proofs.Common.{◌≡◌, ℕ, ◌+◌, ◌-◌, ◌<◌, false, length, get_or, None, ap, sym, subst, ◌∙◌, arith}
+use Rattle.std.proofs.Common.{◌≡◌, ◌+◌, ◌-◌, false, length, get_or, None, ap, sym, subst, ◌∙◌}
 use Rattle.fleet_base.specs.declared.entries.Act.TheVariants as act
 use Rattle.fleet_model.specs.Sites.{steps}
 use Rattle.fleet_model.specs.States.{block_of, is_full}

@@ -1,14 +1,11 @@
-use Rattle.std.proofs.Common.{◌≡◌, ℕ, ◌<◌, ◌≤◌, false, List, length, get_or, ◌-◌, Option, Some, None, ap, sym, subst, ◌∙◌, arith}
-use Rattle.std.specs.Prelude.{Err}
+use Rattle.std.proofs.Common.{◌≡◌, ◌<◌, false, length, get_or, ◌-◌, Some, None, ap, sym, subst, ◌∙◌, arith}
 use Rattle.fleet_base.specs.declared.answers.RetryRefused.{RetryRefused}
-use Rattle.fleet_base.specs.declared.answers.RetryRefused.TheVariants as refused
 use Rattle.fleet_base.specs.declared.entries.Act.TheVariants as act
 use Rattle.fleet_base.specs.declared.numbers.Span.{Span}
 use Rattle.fleet_model.specs.Sites.{steps}
 use Rattle.fleet_model.specs.States.{block_of, is_full, pending_of}
-use Rattle.fleet_model.specs.Calls.{Retry, Step, first_of, retry}
-use Rattle.site_map.specs.Claims.{site_of}
-use Rattle.coordinator.specs.Books.{Book, IsAnswer, state_of}
+use Rattle.fleet_model.specs.Calls.{Retry, Step, first_of}
+use Rattle.coordinator.specs.Books.{Book, state_of}
 use Rattle.coordinator.specs.Merging.{WouldMerge}
 use Rattle.coordinator.proofs.KeptNext.{robot_is, state}
 use Rattle.coordinator.proofs.PendingRoutes.{legal, shape_is, waits}

@@ -1,4 +1,4 @@
-use Rattle.std.proofs.Common.{◌≡◌, arith, length, ap, sym, subst, ◌∙◌}
+use Rattle.std.proofs.Common.{◌≡◌, arith, length, ap, subst}
 use Rattle.coordinator.specs.Books.{Book, state_of}
 use Rattle.coordinator.proofs.coordinator.Coordinator.robots.Goals as goal
 

@@ -1,5 +1,3 @@
-use Rattle.std.proofs.Common.{ap}
-use Rattle.fleet_base.specs.declared.answers.Block.{Block}
 use Rattle.coordinator.proofs.CyclesShown.{cycle_shown}
 use Rattle.coordinator.proofs.tables.Tables.block.Goals as goal
 
