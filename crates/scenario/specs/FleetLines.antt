@@ -1,0 +1,59 @@
+-- What the lines of robots and of the end declare, and when they are bad. The words are those behind the keyword.
+use Rattle.std.specs.Prelude.{ℕ, ◌==◌, Bool, not, nat_le, List, [], ◌∷◌, ◌++◌, length, slice_index_or, Option, Some, None, Result}
+use Rattle.std.specs.List.{list_all, list_any}
+use Rattle.std.specs.Option.{is_some, unwrap_or}
+use Rattle.fleet_base.specs.declared.limits.TheConstants.{MAX_ROBOTS}
+use Rattle.fleet_names.specs.declared.thing.Thing.{Thing}
+use Rattle.fleet_names.specs.declared.thing.Thing.TheVariants as things
+use Rattle.fleet_names.specs.Names.{Named, count_of, is_name, thing_of}
+use Rattle.fleet_names.specs.Things.{is_robot}
+use Rattle.site_lines.specs.declared.fault.Code.{Code}
+use Rattle.site_lines.specs.declared.fault.Code.TheVariants.{S7, S10, S11, S13, S16, S17, S20}
+use Rattle.scenario.specs.Scenarios.{do_conflict}
+use Rattle.scenario.specs.SiteLines.{cell_at, cell_named, is_taken, with_name}
+use Rattle.scenario.specs.States.{Declared, Mission}
+use Rattle.scenario.specs.Tables.{few, judged, many, row, word}
+
+-- the number of a robot; None of another thing
+abbrev pub as_robot : Option Thing → Option ℕ
+as_robot None = None
+as_robot (Some (things.Cell n)) = None
+as_robot (Some (things.Crossing n)) = None
+as_robot (Some (things.Area n)) = None
+as_robot (Some (things.Robot n)) = Some n
+
+-- the robot that a name names
+abbrev pub robot_named : Named → List ℕ → Option ℕ
+robot_named names name = as_robot (thing_of names name)
+
+-- `robot NAME CELL`
+abbrev pub robot_line : Declared → List (List ℕ) → Result Declared Code
+robot_line d words =
+    let start = cell_at d (word words 1) in
+    judged
+    (few 2 words
+    ∷ many 2 words
+    ∷ row (not (list_all is_name words)) S7
+    ∷ row (is_taken d.names (word words 0)) S10
+    ∷ row (not (is_some (cell_named d.names (word words 1)))) S11
+    ∷ row (nat_le MAX_ROBOTS (length d.starts)) S13
+    ∷ row (list_any (λ earlier. do_conflict d.site earlier start) d.starts) S16
+    ∷ [])
+    (record d { names = with_name d.names (word words 0) (things.Robot (count_of is_robot d.names)); starts = d.starts ++ start ∷ []; missions = d.missions ++ None ∷ [] })
+
+-- `mission ROBOT`
+abbrev pub mission_line : Declared → List (List ℕ) → Result Mission Code
+mission_line d words =
+    let robot = unwrap_or (robot_named d.names (word words 0)) 0 in
+    judged
+    (few 1 words
+    ∷ many 1 words
+    ∷ row (not (list_all is_name words)) S7
+    ∷ row (not (is_some (robot_named d.names (word words 0)))) S11
+    ∷ row (is_some (slice_index_or d.missions robot None)) S17
+    ∷ [])
+    (record { robot = robot; legs = []; blocks = [] })
+
+-- `end`
+abbrev pub end_line : Declared → List (List ℕ) → Result Declared Code
+end_line d words = judged (many 0 words ∷ row (length d.starts == 0) S20 ∷ []) d

@@ -1,0 +1,85 @@
+-- What the lines of a mission add to it, and when they are bad. The words are those behind the keyword.
+use Rattle.std.specs.Prelude.{ℕ, suc, zero, ◌+◌, ◌*◌, ◌==◌, Bool, true, false, not, nat_le, nat_lt, List, [], ◌∷◌, ◌++◌, length, slice_set, Option, Some, None, Result}
+use Rattle.std.specs.List.{list_all}
+use Rattle.std.specs.Option.{is_some, unwrap_or}
+use Rattle.std.specs.Str.Parse.{digits_value}
+use Rattle.fleet_base.specs.declared.limits.TheConstants.{MAX_LEGS}
+use Rattle.fleet_names.specs.declared.thing.Thing.{Thing}
+use Rattle.fleet_names.specs.declared.thing.Thing.TheVariants as things
+use Rattle.fleet_names.specs.Names.{Named, is_name, thing_of}
+use Rattle.site_lines.specs.declared.fault.Code.{Code}
+use Rattle.site_lines.specs.declared.fault.Code.TheVariants.{S7, S8, S9, S11, S18, S19}
+use Rattle.site_lines.specs.Numbers.{is_number}
+use Rattle.site_map.specs.declared.goal.Goal.{Goal}
+use Rattle.site_map.specs.declared.goal.Goal.TheVariants as goals
+use Rattle.scenario.specs.SiteLines.{is_out_of}
+use Rattle.scenario.specs.States.{Block, Declared, Mission}
+use Rattle.scenario.specs.Tables.{few, judged, many, row, word}
+
+-- a cell or an area as a goal; None of another thing
+abbrev pub as_goal : Option Thing → Option Goal
+as_goal None = None
+as_goal (Some (things.Cell n)) = Some (goals.Cell (record { 0 = n }))
+as_goal (Some (things.Crossing n)) = None
+as_goal (Some (things.Area n)) = Some (goals.Area n)
+as_goal (Some (things.Robot n)) = None
+
+-- the goal that a name names
+abbrev pub goal_named : Named → List ℕ → Option Goal
+goal_named names name = as_goal (thing_of names name)
+
+-- these legs so many times
+abbrev pub repeated : ℕ → List Goal → List Goal
+repeated zero legs = []
+repeated (suc n) legs = legs ++ repeated n legs
+
+-- the innermost open block; one that is never read where none is open
+abbrev pub innermost : List Block → Block
+innermost [] = record { times = 0; before = [] }
+innermost (block ∷ blocks) = block
+
+-- the blocks around it
+abbrev pub outer : List Block → List Block
+outer [] = []
+outer (block ∷ blocks) = blocks
+
+-- `visit GOAL`
+abbrev pub visit_line : Declared → Mission → List (List ℕ) → Result Mission Code
+visit_line d m words =
+    let goal = unwrap_or (goal_named d.names (word words 0)) (goals.Area 0) in
+    judged
+    (few 1 words
+    ∷ many 1 words
+    ∷ row (not (list_all is_name words)) S7
+    ∷ row (not (is_some (goal_named d.names (word words 0)))) S11
+    ∷ row (nat_lt MAX_LEGS (length m.legs + 1)) S19
+    ∷ [])
+    (record m { legs = m.legs ++ goal ∷ [] })
+
+-- `repeat TIMES`: opens a block, at most 4 deep
+abbrev pub repeat_line : Mission → List (List ℕ) → Result Mission Code
+repeat_line m words = judged
+    (few 1 words
+    ∷ many 1 words
+    ∷ row (not (is_number 9 (word words 0))) S8
+    ∷ row (is_out_of 1 64 (word words 0)) S9
+    ∷ row (nat_le 4 (length m.blocks)) S18
+    ∷ [])
+    (record m { legs = []; blocks = record { times = digits_value 10 (word words 0); before = m.legs } ∷ m.blocks })
+
+-- `again`: closes the innermost block, which stands as often as its number says
+abbrev pub again_line : Mission → List (List ℕ) → Result Mission Code
+again_line m words =
+    let block = innermost m.blocks in
+    judged
+    (many 0 words
+    ∷ row (length m.blocks == 0) S18
+    ∷ row (nat_lt MAX_LEGS (length block.before + block.times * length m.legs)) S19
+    ∷ [])
+    (record m { legs = block.before ++ repeated block.times m.legs; blocks = outer m.blocks })
+
+-- `done`: closes the mission
+abbrev pub done_line : Declared → Mission → List (List ℕ) → Result Declared Code
+done_line d m words = judged
+    (many 0 words ∷ row (not (length m.blocks == 0)) S18 ∷ [])
+    (record d { missions = slice_set d.missions m.robot (Some m.legs) })
