@@ -1,4 +1,5 @@
 pub mod Scenarios
+pub mod Parts
 pub mod Tables
 pub mod States
 pub mod SiteLines

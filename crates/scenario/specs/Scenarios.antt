@@ -1,5 +1,5 @@
 -- Scenarios, as contracts see them.
-use Rattle.std.specs.Prelude.{◌≡◌, ℕ, ◌<◌, ◌≤◌, Bool, false, List, length, All, AllPairs}
+use Rattle.std.specs.Prelude.{◌≡◌, ℕ, ◌<◌, ◌≤◌, Bool, false, List, [], length, slice_index_or, All, AllPairs}
 use Rattle.std.specs.List.{list_any}
 use Rattle.fleet_base.specs.declared.limits.TheConstants.{MAX_LEGS, MAX_ROBOTS}
 use Rattle.fleet_base.specs.declared.numbers.CellNo.{CellNo}
@@ -28,6 +28,10 @@ pub record NamesAll (names : Named) (site : BuiltSite) (count : ℕ) : Type 0 wh
 -- the footprints of the two cells conflict
 abbrev pub do_conflict : BuiltSite → CellNo → CellNo → Bool
 do_conflict site a b = list_any (λ c. is_kept_from (site_of site) c b) (footprint_of (site_of site) a)
+
+-- the legs of robot r
+abbrev pub legs_of : List (List Goal) → ℕ → List Goal
+legs_of missions r = slice_index_or missions r []
 
 -- few legs, each with a goal in the site
 pub record IsMission (site : BuiltSite) (legs : List Goal) : Type 0 where

@@ -1,12 +1,16 @@
-//! Why a scenario isn't read.
+//! Why a text isn't read.
 
+ghost use Rattle.std.specs.Prelude.{◌≡◌};
+ghost use Rattle.scenario.specs.declared.stop.Stop.TheVariants as stops;
 
+use fleet_base::path::NoMemory;
 use site_lines::fault::{At, Code};
+use std::alloc::{AllocError, AllocFailed};
 
 /// Why a text isn't read as a scenario.
 #[derive(Clone, Copy, Debug, PartialEq, Eq)]
 pub enum ReadRefused {
-    /// The first bad line, with its least code.
+    /// Its first bad line, with the line's least code.
     Bad(At),
     /// No memory was left.
     NoMemory,
@@ -15,8 +19,40 @@ pub enum ReadRefused {
 // Why a line isn't taken.
 #[derive(Clone, Copy, Debug, PartialEq, Eq)]
 pub(crate) enum Stop {
-    // Its least code.
+    // It is bad, and this is its least code.
     Bad(Code),
     // No memory was left.
     NoMemory,
+}
+
+impl From<Code> for Stop {
+    ghost from_gives = { λ code stop. stop ≡ stops.Bad code };
+
+    fn from(code: Code) -> Self {
+        Stop::Bad(code)
+    }
+}
+
+impl From<AllocError> for Stop {
+    ghost from_gives = { λ _ stop. stop ≡ stops.NoMemory };
+
+    fn from(_error: AllocError) -> Self {
+        Stop::NoMemory
+    }
+}
+
+impl<T: Drop> From<AllocFailed<T>> for Stop {
+    ghost from_gives = { λ _ stop. stop ≡ stops.NoMemory };
+
+    fn from(_error: AllocFailed<T>) -> Self {
+        Stop::NoMemory
+    }
+}
+
+impl From<NoMemory> for Stop {
+    ghost from_gives = { λ _ stop. stop ≡ stops.NoMemory };
+
+    fn from(_error: NoMemory) -> Self {
+        Stop::NoMemory
+    }
 }
