@@ -2,6 +2,7 @@
 #![tactic(auto)]
 
 pub mod missions;
+mod named;
 pub mod samples;
 pub mod scenario;
 pub mod stop;
