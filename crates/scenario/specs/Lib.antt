@@ -7,3 +7,4 @@ pub mod FleetLines
 pub mod MissionLines
 pub mod Reading
 pub mod Canonical
+pub mod Kept

@@ -13,6 +13,7 @@ use Rattle.fleet_names.specs.Things.{is_area, is_cell, is_crossing}
 use Rattle.site_lines.specs.declared.fault.Code.{Code}
 use Rattle.site_lines.specs.declared.fault.Code.TheVariants.{S7, S8, S9, S10, S11, S12, S13, S14, S15, S23}
 use Rattle.site_lines.specs.Numbers.{is_number}
+use Rattle.site_lines.specs.Readings.{Row}
 use Rattle.site_map.specs.Built.{BuiltSite, crossing_at, crossings_with, link_total, links_at, with_area, with_cell, with_crossing, with_flow, with_link}
 use Rattle.site_map.specs.Cells.{has_cell, has_repeat}
 use Rattle.site_map.specs.Crossings.{in_flow}
@@ -94,19 +95,24 @@ cell_line d words = judged
     ∷ [])
     (record d { site = with_cells d.site words; names = with_cell_names d.names words })
 
+-- the codes of a line with a new name and cells
+abbrev pub new_set_rows : Named → List (List ℕ) → List Row
+new_set_rows names words =
+    few 2 words
+    ∷ row (not (list_all is_name words)) S7
+    ∷ row (is_taken names (word words 0)) S10
+    ∷ row (not (are_cells names (drop 1 words))) S11
+    ∷ []
+
 -- `crossing NAME CELL CELL ..`
 abbrev pub crossing_line : Declared → List (List ℕ) → Result Declared Code
 crossing_line d words =
     let cells = cells_named d.names (drop 1 words) in
     judged
-    (few 2 words
-    ∷ row (not (list_all is_name words)) S7
-    ∷ row (is_taken d.names (word words 0)) S10
-    ∷ row (not (are_cells d.names (drop 1 words))) S11
-    ∷ row (has_repeat cells) S12
+    (new_set_rows d.names words ++ (row (has_repeat cells) S12
     ∷ row (nat_le MAX_CROSSINGS (length d.site.crossings) || has_too_many_claims (with_crossing d.site cells)) S13
     ∷ row (list_any (λ c. nat_le MAX_CROSSINGS_OF_CELL (crossings_with d.site.crossings c)) cells) S14
-    ∷ [])
+    ∷ []))
     (record d { site = with_crossing d.site cells; names = with_name d.names (word words 0) (things.Crossing (count_of is_crossing d.names)) })
 
 -- `area NAME CELL CELL ..`
@@ -114,13 +120,9 @@ abbrev pub area_line : Declared → List (List ℕ) → Result Declared Code
 area_line d words =
     let cells = cells_named d.names (drop 1 words) in
     judged
-    (few 2 words
-    ∷ row (not (list_all is_name words)) S7
-    ∷ row (is_taken d.names (word words 0)) S10
-    ∷ row (not (are_cells d.names (drop 1 words))) S11
-    ∷ row (has_repeat cells) S12
+    (new_set_rows d.names words ++ (row (has_repeat cells) S12
     ∷ row (nat_le MAX_AREAS (length d.site.areas)) S13
-    ∷ [])
+    ∷ []))
     (record d { site = with_area d.site cells; names = with_name d.names (word words 0) (things.Area (count_of is_area d.names)) })
 
 -- `flow CROSSING CELL CELL ..`

@@ -41,6 +41,11 @@ abbrev pub Fails : {Y : Type 0} → Stop → Result Y Code → Type 0
 Fails stops.NoMemory due = Unit {0}
 Fails (stops.Bad code) due = due ≡ Err code
 
+-- why a line is stopped is the least code of a table, or want of memory
+abbrev pub IsStop : List Row → Stop → Type 0
+IsStop rows stops.NoMemory = Unit {0}
+IsStop rows (stops.Bad code) = least_code rows ≡ Some code
+
 -- what a line's function returned, seen by view, is what is due, unless memory ran out
 abbrev pub Gives : {X Y : Type 0} → (X → Y) → Result X Stop → Result Y Code → Type 0
 Gives view (Ok x) due = due ≡ Ok (view x)

@@ -1,6 +1,7 @@
 //! Scenarios: their text, read and printed.
 #![tactic(auto)]
 
+mod ground;
 pub mod missions;
 mod named;
 pub mod samples;

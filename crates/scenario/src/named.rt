@@ -1,17 +1,18 @@
 // What the names of a line name.
-ghost use Rattle.std.specs.Prelude.{◌≡◌, ◌<◌, true, false, not, [], ◌∷◌, Some, None, IfSome, IfOk};
+ghost use Rattle.std.specs.Prelude.{◌≡◌, ◌<◌, true, false, not, nat_lt, [], ◌∷◌, length, drop, Some, IfSome, IfOk, IfErr, OnOk};
 ghost use Rattle.std.specs.List.{list_all};
 ghost use Rattle.fleet_names.specs.Names.{count_of, is_name};
 ghost use Rattle.fleet_names.specs.Things.{is_area, is_cell, is_crossing, is_robot, number_of, same_kind};
 ghost use Rattle.site_map.specs.Cells.{are_known};
 ghost use Rattle.site_map.specs.Goals.{IsGoal};
+ghost use Rattle.site_lines.specs.Readings.{least_code};
 ghost use Rattle.scenario.specs.FleetLines.{robot_named};
 ghost use Rattle.scenario.specs.MissionLines.{goal_named};
-ghost use Rattle.scenario.specs.SiteLines.{are_cells, cell_named, cells_named, crossing_named, has_taken, is_taken, with_cell_names, with_name};
-ghost use Rattle.scenario.specs.Tables.{judged, row, Gives};
+ghost use Rattle.scenario.specs.SiteLines.{are_cells, cell_named, cells_named, crossing_named, has_taken, is_taken, new_set_rows, with_cell_names, with_name};
+ghost use Rattle.scenario.specs.Tables.{row, word, IsStop};
 
 use crate::stop::Stop;
-use crate::words::Words;
+use crate::words::{Words, check_names};
 use fleet_base::numbers::CellNo;
 use fleet_names::names::{NameRefused, Names};
 use fleet_names::thing::Thing;
@@ -69,7 +70,10 @@ pub(crate) fn cells_named(
     names: &Names,
     words: &mut Words,
 ) -> Result<Vec<CellNo>, Stop>
-    ensures is { Gives (λ v. v.items) result (judged (row (not (are_cells names.now words.old)) Code.S11 ∷ []) (cells_named names.now words.old)) }
+    ensures all { OnOk result (are_cells names.now words.old ≡ true) }
+    ensures count { IfOk result (λ v. length v.items ≡ length words.old) }
+    ensures is { IfOk result (λ v. v.items ≡ cells_named names.now words.old) }
+    ensures bad { IfErr result (IsStop (row (not (are_cells names.now words.old)) Code.S11 ∷ [])) }
     ensures known { IfOk result (λ v. are_known (count_of is_cell names.now) v.items ≡ true) }
 {
     let mut cells = Vec::new(alloc);
@@ -84,7 +88,8 @@ pub(crate) fn cells_named(
 
 // The name isn't taken; else the code.
 pub(crate) fn check_free(names: &Names, name: &[u8]) -> Result<(), Code>
-    ensures { result ≡ judged (row (is_taken names.now name.now) Code.S10 ∷ []) tt }
+    ensures free { OnOk result (is_taken names.now name.now ≡ false) }
+    ensures bad { IfErr result (λ code. least_code (row (is_taken names.now name.now) Code.S10 ∷ []) ≡ Some code) }
 {
     if names.find(name).is_some() {
         return Err(Code::S10);
@@ -92,11 +97,39 @@ pub(crate) fn check_free(names: &Names, name: &[u8]) -> Result<(), Code>
     Ok(())
 }
 
+// The new name and the cells of a line that names a set of cells; else the least code.
+pub(crate) fn new_set<'a>(
+    alloc: Global,
+    names: &Names,
+    words: &mut Words<'a>,
+) -> Result<(&'a [u8], Vec<CellNo>), Stop>
+    ensures enough { OnOk result (nat_lt (length words.old) 2 ≡ false) }
+    ensures names { OnOk result (list_all is_name words.old ≡ true) }
+    ensures free { OnOk result (is_taken names.now (word words.old 0) ≡ false) }
+    ensures all { OnOk result (are_cells names.now (drop 1 words.old) ≡ true) }
+    ensures name { IfOk result (λ set. set.0.now ≡ word words.old 0) }
+    ensures good { IfOk result (λ set. is_name set.0.now ≡ true) }
+    ensures cells { IfOk result (λ set. set.1.items ≡ cells_named names.now (drop 1 words.old)) }
+    ensures some { IfOk result (λ set. 0 < length set.1.items) }
+    ensures known { IfOk result (λ set. are_known (count_of is_cell names.now) set.1.items ≡ true) }
+    ensures bad { IfErr result (IsStop (new_set_rows names.now words.old)) }
+{
+    check_names(&mut words.again(), 2)?;
+    let Some(name) = words.next() else {
+        return Err(Stop::Bad(Code::S5));
+    };
+    check_free(names, name)?;
+    let cells = cells_named(alloc, names, words)?;
+    Ok((name, cells))
+}
+
 // Adds a name for the next thing of a kind, where it isn't taken; else the code.
 pub(crate) fn add_name(names: &mut Names, name: &[u8], thing: Thing) -> Result<(), Stop>
     requires name { is_name name.now ≡ true }
     requires next { number_of thing ≡ count_of (same_kind thing) names.old }
-    ensures { Gives (λ _. names.new) result (judged (row (is_taken names.old name.now) Code.S10 ∷ []) (with_name names.old name.now thing)) }
+    ensures free { OnOk result (is_taken names.old name.now ≡ false) }
+    ensures added { OnOk result (names.new ≡ with_name names.old name.now thing) }
+    ensures bad { IfErr result (IsStop (row (is_taken names.old name.now) Code.S10 ∷ [])) }
 {
     match names.add(name, thing) {
         Ok(()) => Ok(()),
@@ -109,7 +142,9 @@ pub(crate) fn add_name(names: &mut Names, name: &[u8], thing: Thing) -> Result<(
 // Adds these names for the next cells, where none of them is taken; else the code.
 pub(crate) fn add_cell_names(names: &mut Names, words: &mut Words) -> Result<(), Stop>
     requires { list_all is_name words.old ≡ true }
-    ensures { Gives (λ _. names.new) result (judged (row (has_taken names.old words.old) Code.S10 ∷ []) (with_cell_names names.old words.old)) }
+    ensures free { OnOk result (has_taken names.old words.old ≡ false) }
+    ensures added { OnOk result (names.new ≡ with_cell_names names.old words.old) }
+    ensures bad { IfErr result (IsStop (row (has_taken names.old words.old) Code.S10 ∷ [])) }
 {
     while let Some(word) = words.next() {
         let cell = Thing::Cell(names.count_cells());

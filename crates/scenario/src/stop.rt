@@ -5,6 +5,7 @@ ghost use Rattle.scenario.specs.declared.stop.Stop.TheVariants as stops;
 
 use fleet_base::path::NoMemory;
 use site_lines::fault::{At, Code};
+use site_map::refused::BuildRefused;
 use std::alloc::{AllocError, AllocFailed};
 
 /// Why a text isn't read as a scenario.
@@ -30,6 +31,25 @@ impl From<Code> for Stop {
 
     fn from(code: Code) -> Self {
         Stop::Bad(code)
+    }
+}
+
+impl From<BuildRefused> for Stop {
+    ghost use Rattle.std.specs.Prelude.{◌≡◌};
+    ghost use Rattle.scenario.specs.Kept.{stop_of};
+
+    ghost from_gives = { λ refused stop. stop ≡ stop_of refused };
+
+    fn from(refused: BuildRefused) -> Self {
+        match refused {
+            BuildRefused::UnknownCell | BuildRefused::UnknownCrossing => Stop::Bad(Code::S11),
+            BuildRefused::Repeated => Stop::Bad(Code::S12),
+            BuildRefused::Full => Stop::Bad(Code::S13),
+            BuildRefused::TooManyCrossings => Stop::Bad(Code::S14),
+            BuildRefused::Foreign => Stop::Bad(Code::S23),
+            BuildRefused::SelfLink | BuildRefused::Linked => Stop::Bad(Code::S15),
+            BuildRefused::NoMemory => Stop::NoMemory,
+        }
     }
 }
 

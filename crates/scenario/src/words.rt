@@ -1,5 +1,5 @@
 // The words of a line, one after the other.
-ghost use Rattle.std.specs.Prelude.{◌≡◌, ◌≤◌, ◌<◌, not, [], ◌∷◌, length, MatchOption, IfOk, IfErr, OnOk, Some, None};
+ghost use Rattle.std.specs.Prelude.{◌≡◌, ◌≤◌, ◌<◌, not, [], ◌∷◌, length, MatchOption, IfOk, IfErr, OnOk, Some, true, false, nat_lt};
 ghost use Rattle.std.specs.List.{list_all};
 ghost use Rattle.fleet_names.specs.Names.{is_name};
 ghost use Rattle.site_lines.specs.Readings.{least_code};
@@ -12,6 +12,7 @@ use site_lines::word::word_at;
 use std::marker::Model;
 
 // The words of a line that are left. Contracts see their list.
+#[derive(Drop)]
 pub(crate) struct Words<'a> {
     line: &'a [u8],
     at: usize,
@@ -57,8 +58,9 @@ impl<'a> Words<'a> {
 }
 
 // There are at least so many words, and each is a name; else the least code.
-pub(crate) fn names(words: &mut Words, least: usize) -> Result<(), Code>
-    ensures ok { OnOk result (least_code (few least words.old ∷ row (not (list_all is_name words.old)) Code.S7 ∷ []) ≡ None) }
+pub(crate) fn check_names(words: &mut Words, least: usize) -> Result<(), Code>
+    ensures enough { OnOk result (nat_lt (length words.old) least ≡ false) }
+    ensures names { OnOk result (list_all is_name words.old ≡ true) }
     ensures bad { IfErr result (λ code. least_code (few least words.old ∷ row (not (list_all is_name words.old)) Code.S7 ∷ []) ≡ Some code) }
 {
     let mut missing = least;

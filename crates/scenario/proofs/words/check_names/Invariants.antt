@@ -1,7 +1,7 @@
 use Rattle.std.proofs.Common.{◌≡◌, ◌-◌, ◌≤◌, ◌&&◌, length}
 use Rattle.std.specs.List.{list_all}
 use Rattle.fleet_names.specs.Names.{is_name}
-use Rattle.scenario.proofs.words.names.Given as goal
+use Rattle.scenario.proofs.words.check_names.Given as goal
 
 abbrev pub invariant-loop-word : goal.invariant-loop-word
 invariant-loop-word l = record {

@@ -1,0 +1,14 @@
+use Rattle.std.proofs.Common.{◌≡◌, ◌+◌, ◌≤◌, length}
+use Rattle.fleet_base.specs.declared.limits.TheConstants.{MAX_CELLS}
+use Rattle.scenario.specs.SiteLines.{with_cells}
+use Rattle.scenario.proofs.ground.add_cells.Given as goal
+
+abbrev pub invariant-loop-builder : goal.invariant-loop-builder
+invariant-loop-builder l = record {
+  few : l.builder.cells ≤ MAX_CELLS;
+  count : l.builder.cells + length l.words ≡ l.initial.builder.cells + length l.initial.words;
+  added : with_cells l.builder l.words ≡ with_cells l.initial.builder l.initial.words;
+}
+
+abbrev pub decreases-loop-builder : goal.decreases-loop-builder
+decreases-loop-builder l = length l.words
