@@ -29,7 +29,7 @@ robot_named names name = as_robot (thing_of names name)
 -- `robot NAME CELL`
 abbrev pub robot_line : Declared → List (List ℕ) → Result Declared Code
 robot_line d words =
-    let start = cell_at d (word words 1) in
+    let start = cell_at d.names (word words 1) in
     judged
     (few 2 words
     ∷ many 2 words

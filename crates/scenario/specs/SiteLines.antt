@@ -95,7 +95,7 @@ cell_line d words = judged
     ∷ [])
     (record d { site = with_cells d.site words; names = with_cell_names d.names words })
 
--- the codes of a line with a new name and cells
+-- the faults of a new name and at least one cell
 abbrev pub new_set_rows : Named → List (List ℕ) → List Row
 new_set_rows names words =
     few 2 words
@@ -104,81 +104,105 @@ new_set_rows names words =
     ∷ row (not (are_cells names (drop 1 words))) S11
     ∷ []
 
+-- the faults of a new crossing of these cells
+abbrev pub crossing_rows : BuiltSite → List CellNo → List Row
+crossing_rows site cells =
+    row (has_repeat cells) S12
+    ∷ row (nat_le MAX_CROSSINGS (length site.crossings) || has_too_many_claims (with_crossing site cells)) S13
+    ∷ row (list_any (λ c. nat_le MAX_CROSSINGS_OF_CELL (crossings_with site.crossings c)) cells) S14
+    ∷ []
+
 -- `crossing NAME CELL CELL ..`
 abbrev pub crossing_line : Declared → List (List ℕ) → Result Declared Code
 crossing_line d words =
     let cells = cells_named d.names (drop 1 words) in
-    judged
-    (new_set_rows d.names words ++ (row (has_repeat cells) S12
-    ∷ row (nat_le MAX_CROSSINGS (length d.site.crossings) || has_too_many_claims (with_crossing d.site cells)) S13
-    ∷ row (list_any (λ c. nat_le MAX_CROSSINGS_OF_CELL (crossings_with d.site.crossings c)) cells) S14
-    ∷ []))
+    judged (new_set_rows d.names words ++ crossing_rows d.site cells)
     (record d { site = with_crossing d.site cells; names = with_name d.names (word words 0) (things.Crossing (count_of is_crossing d.names)) })
+
+-- the faults of a new area of these cells
+abbrev pub area_rows : BuiltSite → List CellNo → List Row
+area_rows site cells =
+    row (has_repeat cells) S12
+    ∷ row (nat_le MAX_AREAS (length site.areas)) S13
+    ∷ []
 
 -- `area NAME CELL CELL ..`
 abbrev pub area_line : Declared → List (List ℕ) → Result Declared Code
 area_line d words =
     let cells = cells_named d.names (drop 1 words) in
-    judged
-    (new_set_rows d.names words ++ (row (has_repeat cells) S12
-    ∷ row (nat_le MAX_AREAS (length d.site.areas)) S13
-    ∷ []))
+    judged (new_set_rows d.names words ++ area_rows d.site cells)
     (record d { site = with_area d.site cells; names = with_name d.names (word words 0) (things.Area (count_of is_area d.names)) })
+
+-- the faults of the name of a crossing and at least one cell
+abbrev pub old_set_rows : Named → List (List ℕ) → List Row
+old_set_rows names words =
+    few 2 words
+    ∷ row (not (list_all is_name words)) S7
+    ∷ row (not (is_some (crossing_named names (word words 0)) && are_cells names (drop 1 words))) S11
+    ∷ []
+
+-- the faults of a new flow of these cells in crossing k; the claims are counted as if the flow stood
+abbrev pub flow_rows : BuiltSite → ℕ → List CellNo → List Row
+flow_rows site k cells =
+    row (has_repeat cells) S12
+    ∷ row (has_too_many_claims (with_flow site k cells)) S13
+    ∷ row (list_any (λ c. not (has_cell (crossing_at site k).cells c) || in_flow (crossing_at site k).flows c) cells) S23
+    ∷ []
 
 -- `flow CROSSING CELL CELL ..`
 abbrev pub flow_line : Declared → List (List ℕ) → Result Declared Code
 flow_line d words =
-    let crossing = unwrap_or (crossing_named d.names (word words 0)) 0 in
+    let k = unwrap_or (crossing_named d.names (word words 0)) 0 in
     let cells = cells_named d.names (drop 1 words) in
-    let declared = crossing_at d.site crossing in
-    judged
-    (few 2 words
-    ∷ row (not (list_all is_name words)) S7
-    ∷ row (not (is_some (crossing_named d.names (word words 0)) && are_cells d.names (drop 1 words))) S11
-    ∷ row (has_repeat cells) S12
-    ∷ row (has_too_many_claims (with_flow d.site crossing cells)) S13
-    ∷ row (list_any (λ c. not (has_cell declared.cells c) || in_flow declared.flows c) cells) S23
-    ∷ [])
-    (record d { site = with_flow d.site crossing cells })
+    judged (old_set_rows d.names words ++ flow_rows d.site k cells)
+    (record d { site = with_flow d.site k cells })
 
--- the cell that a word names, the first of all where it names none
-abbrev pub cell_at : Declared → List ℕ → CellNo
-cell_at d name = unwrap_or (cell_named d.names name) (record { 0 = 0 })
+-- the faults of two cells and a cost
+abbrev pub ends_rows : Named → List (List ℕ) → List Row
+ends_rows names words =
+    few 3 words
+    ∷ many 3 words
+    ∷ row (not (list_all is_name (take 2 words))) S7
+    ∷ row (not (is_number 9 (word words 2))) S8
+    ∷ row (is_out_of 1 MAX_COST (word words 2)) S9
+    ∷ row (not (are_cells names (take 2 words))) S11
+    ∷ []
 
--- the link to a cell with the cost that the last word says
-abbrev pub link_to : CellNo → List ℕ → Link
-link_to to cost = record { to = to; cost = digits_value 10 cost }
+-- the cell that a word names; the first cell where it names none
+abbrev pub cell_at : Named → List ℕ → CellNo
+cell_at names name = unwrap_or (cell_named names name) (record { 0 = 0 })
+
+-- the site with a link from a to b
+abbrev pub linked : BuiltSite → CellNo → CellNo → ℕ → BuiltSite
+linked site a b cost = with_link site a (record { to = b; cost = cost })
+
+-- the faults of a new link
+abbrev pub link_rows : BuiltSite → CellNo → CellNo → List Row
+link_rows site a b =
+    row (nat_lt MAX_LINKS (link_total site.links + 1)) S13
+    ∷ row ((a.0 == b.0) || has_link site a b) S15
+    ∷ []
 
 -- `link CELL CELL COST`
 abbrev pub link_line : Declared → List (List ℕ) → Result Declared Code
 link_line d words =
-    let from = cell_at d (word words 0) in
-    let to = cell_at d (word words 1) in
-    judged
-    (few 3 words
-    ∷ many 3 words
-    ∷ row (not (list_all is_name (take 2 words))) S7
-    ∷ row (not (is_number 9 (word words 2))) S8
-    ∷ row (is_out_of 1 MAX_COST (word words 2)) S9
-    ∷ row (not (are_cells d.names (take 2 words))) S11
-    ∷ row (nat_lt MAX_LINKS (link_total d.site.links + 1)) S13
-    ∷ row ((from.0 == to.0) || has_link d.site from to) S15
-    ∷ [])
-    (record d { site = with_link d.site from (link_to to (word words 2)) })
+    let a = cell_at d.names (word words 0) in
+    let b = cell_at d.names (word words 1) in
+    judged (ends_rows d.names words ++ link_rows d.site a b)
+    (record d { site = linked d.site a b (digits_value 10 (word words 2)) })
 
--- `lane CELL CELL COST`: two links, one each way
+-- the faults of a new lane, which is two links
+abbrev pub lane_rows : BuiltSite → CellNo → CellNo → List Row
+lane_rows site a b =
+    row (nat_lt MAX_LINKS (link_total site.links + 2)) S13
+    ∷ row ((a.0 == b.0) || (has_link site a b || has_link site b a)) S15
+    ∷ []
+
+-- `lane CELL CELL COST`: a link each way
 abbrev pub lane_line : Declared → List (List ℕ) → Result Declared Code
 lane_line d words =
-    let from = cell_at d (word words 0) in
-    let to = cell_at d (word words 1) in
-    judged
-    (few 3 words
-    ∷ many 3 words
-    ∷ row (not (list_all is_name (take 2 words))) S7
-    ∷ row (not (is_number 9 (word words 2))) S8
-    ∷ row (is_out_of 1 MAX_COST (word words 2)) S9
-    ∷ row (not (are_cells d.names (take 2 words))) S11
-    ∷ row (nat_lt MAX_LINKS (link_total d.site.links + 2)) S13
-    ∷ row ((from.0 == to.0) || has_link d.site from to || has_link d.site to from) S15
-    ∷ [])
-    (record d { site = with_link (with_link d.site from (link_to to (word words 2))) to (link_to from (word words 2)) })
+    let a = cell_at d.names (word words 0) in
+    let b = cell_at d.names (word words 1) in
+    let cost = digits_value 10 (word words 2) in
+    judged (ends_rows d.names words ++ lane_rows d.site a b)
+    (record d { site = linked (linked d.site a b cost) b a cost })

@@ -41,6 +41,10 @@ abbrev pub Fails : {Y : Type 0} → Stop → Result Y Code → Type 0
 Fails stops.NoMemory due = Unit {0}
 Fails (stops.Bad code) due = due ≡ Err code
 
+-- no fault of a table is there
+abbrev pub IsFine : List Row → Type 0
+IsFine rows = least_code rows ≡ None
+
 -- why a line is stopped is the least code of a table, or want of memory
 abbrev pub IsStop : List Row → Stop → Type 0
 IsStop rows stops.NoMemory = Unit {0}

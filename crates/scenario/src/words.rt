@@ -1,10 +1,10 @@
 // The words of a line, one after the other.
-ghost use Rattle.std.specs.Prelude.{◌≡◌, ◌≤◌, ◌<◌, not, [], ◌∷◌, length, MatchOption, IfOk, IfErr, OnOk, Some, true, false, nat_lt};
+ghost use Rattle.std.specs.Prelude.{◌≡◌, ◌≤◌, ◌<◌, not, [], ◌∷◌, length, MatchOption, IfOk, IfErr, OnOk, Some, true};
 ghost use Rattle.std.specs.List.{list_all};
 ghost use Rattle.fleet_names.specs.Names.{is_name};
 ghost use Rattle.site_lines.specs.Readings.{least_code};
 ghost use Rattle.site_lines.specs.Words.{words_of};
-ghost use Rattle.scenario.specs.Tables.{few, many, row};
+ghost use Rattle.scenario.specs.Tables.{few, many, row, IsFine};
 
 use fleet_names::thing::is_name;
 use site_lines::fault::Code;
@@ -59,7 +59,7 @@ impl<'a> Words<'a> {
 
 // There are at least so many words, and each is a name; else the least code.
 pub(crate) fn check_names(words: &mut Words, least: usize) -> Result<(), Code>
-    ensures enough { OnOk result (nat_lt (length words.old) least ≡ false) }
+    ensures fine { OnOk result (IsFine (few least words.old ∷ row (not (list_all is_name words.old)) Code.S7 ∷ [])) }
     ensures names { OnOk result (list_all is_name words.old ≡ true) }
     ensures bad { IfErr result (λ code. least_code (few least words.old ∷ row (not (list_all is_name words.old)) Code.S7 ∷ []) ≡ Some code) }
 {
