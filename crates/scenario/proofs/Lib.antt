@@ -1,3 +1,4 @@
+pub mod Lanes
 pub mod Links
 pub mod Openings
 pub mod Tables

@@ -1,8 +1,9 @@
 -- What the rows of a table say of the table that they stand in.
-use Rattle.std.proofs.Common.{◌≡◌, Bool, true, false, List, [], ◌∷◌, ◌++◌, Option, Some, None, Ok, Err, Result, refl, ap, ◌∙◌}
+use Rattle.std.proofs.Common.{◌≡◌, Bool, true, false, List, [], ◌∷◌, ◌++◌, Option, Some, None, Ok, Err, Result, refl, sym, ap, subst, ◌∙◌}
+use Rattle.std.specs.Prelude.{IsErrAnd}
 use Rattle.site_lines.specs.declared.fault.Code.{Code}
 use Rattle.site_lines.specs.Readings.{Row, least_code}
-use Rattle.scenario.specs.Tables.{code_or, judged, Fails, IsFine, IsStop}
+use Rattle.scenario.specs.Tables.{code_or, judged, Fails, Gives, IsFine, IsStop}
 use Rattle.scenario.specs.declared.stop.Stop.{Stop}
 use Rattle.scenario.specs.declared.stop.Stop.TheVariants as stops
 
@@ -40,3 +41,8 @@ later_stops front back t (stops.Bad code) fine is = ap (λ o. code_or o t) (firs
 -- no fault in either part
 pub both_fine : {T : Type 0} (front back : List Row) (t : T) → IsFine front → IsFine back → judged (front ++ back) t ≡ Ok t
 both_fine front back t fine is = ap (λ o. code_or o t) (first_none front back fine ∙ is)
+
+-- what a `?` hands on
+pub handed_on : {X Y : Type 0} (view : X → Y) (result : Result X Stop) (due : Result Y Code) (stop : Stop) → IsErrAnd result (λ e. e ≡ stop) → Fails stop due → Gives view result due
+handed_on view (Ok x) due stop is fails = absurd is
+handed_on view (Err e) due stop is fails = subst (λ s. Fails s due) (sym is) fails

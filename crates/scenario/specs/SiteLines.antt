@@ -179,7 +179,7 @@ linked site a b cost = with_link site a (record { to = b; cost = cost })
 -- the faults of a new link
 abbrev pub link_rows : BuiltSite → CellNo → CellNo → List Row
 link_rows site a b =
-    row (nat_lt MAX_LINKS (link_total site.links + 1)) S13
+    row (nat_le MAX_LINKS (link_total site.links)) S13
     ∷ row ((a.0 == b.0) || has_link site a b) S15
     ∷ []
 

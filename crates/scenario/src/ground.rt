@@ -8,7 +8,7 @@ ghost use Rattle.site_map.specs.Cells.{are_known, has_cell, has_repeat};
 ghost use Rattle.site_map.specs.Crossings.{in_flow};
 ghost use Rattle.site_map.specs.Refusals.{has_too_many_claims};
 ghost use Rattle.scenario.specs.Scenarios.{NamesAll};
-ghost use Rattle.scenario.specs.SiteLines.{area_line, area_rows, cell_line, crossing_line, crossing_rows, flow_line, flow_rows, lane_line, link_line, with_cells};
+ghost use Rattle.scenario.specs.SiteLines.{area_line, area_rows, cell_line, crossing_line, crossing_rows, flow_line, flow_rows, lane_line, link_line, link_rows, linked, with_cells};
 ghost use Rattle.scenario.specs.States.{nothing_declared};
 ghost use Rattle.scenario.specs.Tables.{row, Gives, IsFine, IsStop};
 
@@ -103,7 +103,7 @@ impl Ground {
         ensures { Gives (λ _. self.new) result (link_line self.old words.old) }
     {
         let (from, to, cost) = ends(&self.names, words)?;
-        self.builder.link(from, to, cost)?;
+        add_link(&mut self.builder, from, to, cost)?;
         self.link_count += 1;
         Ok(())
     }
@@ -117,9 +117,9 @@ impl Ground {
         if self.link_count + 2 > MAX_LINKS {
             return Err(Stop::Bad(Code::S13));
         }
-        self.builder.link(from, to, cost)?;
+        add_link(&mut self.builder, from, to, cost)?;
         self.link_count += 1;
-        self.builder.link(to, from, cost)?;
+        add_link(&mut self.builder, to, from, cost)?;
         self.link_count += 1;
         Ok(())
     }
@@ -179,4 +179,18 @@ fn add_flow(builder: &mut SiteBuilder, crossing: u32, cells: &[CellNo]) -> Resul
     ensures kept { OnErr result (builder.new ≡ builder.old) }
 {
     Ok(builder.flow(crossing, cells)?)
+}
+
+// Adds a link; else the least code.
+fn add_link(builder: &mut SiteBuilder, from: CellNo, to: CellNo, cost: u32) -> Result<(), Stop>
+    requires known { (from.0 < builder.old.cells) × (to.0 < builder.old.cells) }
+    requires costs { (1 ≤ cost) × (cost ≤ MAX_COST) }
+    requires rows { length builder.old.links ≡ builder.old.cells }
+    ensures fine { OnOk result (IsFine (link_rows builder.old from to)) }
+    ensures added { OnOk result (builder.new ≡ linked builder.old from to cost) }
+    ensures one { OnOk result (link_total builder.new.links ≡ link_total builder.old.links + 1) }
+    ensures bad { IfErr result (IsStop (link_rows builder.old from to)) }
+    ensures kept { OnErr result (builder.new ≡ builder.old) }
+{
+    Ok(builder.link(from, to, cost)?)
 }

@@ -180,23 +180,23 @@ pub(crate) fn old_set(
 }
 
 // The cells and the cost of a line of links; else the least code.
-pub(crate) fn ends(names: &Names, words: &mut Words) -> Result<(CellNo, CellNo, u32), Code>
+pub(crate) fn ends(names: &Names, words: &mut Words) -> Result<(CellNo, CellNo, u32), Stop>
     ensures fine { OnOk result (IsFine (ends_rows names.now words.old)) }
     ensures from { IfOk result (λ e. e.0 ≡ cell_at names.now (word words.old 0)) }
     ensures to { IfOk result (λ e. e.1 ≡ cell_at names.now (word words.old 1)) }
     ensures cost { IfOk result (λ e. e.2 ≡ digits_value 10 (word words.old 2)) }
     ensures known { IfOk result (λ e. (e.0.0 < count_of is_cell names.now) × (e.1.0 < count_of is_cell names.now)) }
     ensures costs { IfOk result (λ e. (1 ≤ e.2) × (e.2 ≤ MAX_COST)) }
-    ensures bad { IfErr result (λ code. least_code (ends_rows names.now words.old) ≡ Some code) }
+    ensures bad { IfErr result (IsStop (ends_rows names.now words.old)) }
 {
     let (from, to, cost) = three(words)?;
     if !is_name(from) || !is_name(to) {
-        return Err(Code::S7);
+        return Err(Stop::Bad(Code::S7));
     }
     let cost = number(cost, 1, MAX_COST)?;
     match (cell_named(names, from), cell_named(names, to)) {
         (Some(from), Some(to)) => Ok((from, to, cost)),
-        _ => Err(Code::S11),
+        _ => Err(Stop::Bad(Code::S11)),
     }
 }
 
