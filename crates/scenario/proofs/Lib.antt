@@ -1,4 +1,5 @@
 pub mod Lanes
 pub mod Links
 pub mod Openings
+pub mod Repeats
 pub mod Tables

@@ -9,6 +9,7 @@ use Rattle.fleet_names.specs.Names.{Named, count_of, is_name, thing_of}
 use Rattle.fleet_names.specs.Things.{is_robot}
 use Rattle.site_lines.specs.declared.fault.Code.{Code}
 use Rattle.site_lines.specs.declared.fault.Code.TheVariants.{S7, S10, S11, S13, S16, S17, S20}
+use Rattle.site_lines.specs.Readings.{Row}
 use Rattle.scenario.specs.Scenarios.{do_conflict}
 use Rattle.scenario.specs.SiteLines.{cell_at, cell_named, is_taken, with_name}
 use Rattle.scenario.specs.States.{Declared, Mission}
@@ -26,25 +27,33 @@ as_robot (Some (things.Robot n)) = Some n
 abbrev pub robot_named : Named → List ℕ → Option ℕ
 robot_named names name = as_robot (thing_of names name)
 
--- `robot NAME CELL`
-abbrev pub robot_line : Declared → List (List ℕ) → Result Declared Code
-robot_line d words =
-    let start = cell_at d.names (word words 1) in
-    judged
-    (few 2 words
+-- the faults of a new robot
+abbrev pub robot_rows : Declared → List (List ℕ) → List Row
+robot_rows d words =
+    few 2 words
     ∷ many 2 words
     ∷ row (not (list_all is_name words)) S7
     ∷ row (is_taken d.names (word words 0)) S10
     ∷ row (not (is_some (cell_named d.names (word words 1)))) S11
     ∷ row (nat_le MAX_ROBOTS (length d.starts)) S13
-    ∷ row (list_any (λ earlier. do_conflict d.site earlier start) d.starts) S16
-    ∷ [])
-    (record d { names = with_name d.names (word words 0) (things.Robot (count_of is_robot d.names)); starts = d.starts ++ start ∷ []; missions = d.missions ++ None ∷ [] })
+    ∷ row (list_any (λ earlier. do_conflict d.site earlier (cell_at d.names (word words 1))) d.starts) S16
+    ∷ []
+
+-- `robot NAME CELL`
+abbrev pub robot_line : Declared → List (List ℕ) → Result Declared Code
+robot_line d words = judged (robot_rows d words) (record d {
+    names = with_name d.names (word words 0) (things.Robot (count_of is_robot d.names));
+    starts = d.starts ++ cell_at d.names (word words 1) ∷ [];
+    missions = d.missions ++ None ∷ [] })
+
+-- the number that a word names as a robot; 0 where it names none
+abbrev pub robot_at : Named → List ℕ → ℕ
+robot_at names name = unwrap_or (robot_named names name) 0
 
 -- `mission ROBOT`
 abbrev pub mission_line : Declared → List (List ℕ) → Result Mission Code
 mission_line d words =
-    let robot = unwrap_or (robot_named d.names (word words 0)) 0 in
+    let robot = robot_at d.names (word words 0) in
     judged
     (few 1 words
     ∷ many 1 words

@@ -1,12 +1,13 @@
 -- What lines that were all accepted have made sure of, and how it is kept.
 use Rattle.std.specs.Prelude.{◌≡◌, ℕ, ◌<◌, ◌≤◌, false, List, [], length, All, AllPairs}
 use Rattle.std.specs.Option.{unwrap_or}
-use Rattle.fleet_base.specs.declared.limits.TheConstants.{MAX_LINKS, MAX_ROBOTS}
+use Rattle.fleet_base.specs.declared.limits.TheConstants.{MAX_LEGS, MAX_LINKS, MAX_ROBOTS}
 use Rattle.fleet_names.specs.Names.{Named}
 use Rattle.site_lines.specs.declared.fault.Code.TheVariants.{S11, S12, S13, S14, S15, S23}
 use Rattle.site_map.specs.Built.{BuiltSite, link_total}
 use Rattle.site_map.specs.declared.refused.BuildRefused.{BuildRefused}
 use Rattle.site_map.specs.declared.refused.BuildRefused.TheVariants as refusals
+use Rattle.site_map.specs.declared.goal.Goal.{Goal}
 use Rattle.scenario.specs.Scenarios.{do_conflict, IsMission, NamesAll}
 use Rattle.scenario.specs.States.{Block, Declared, Mission, State, AtHeader, AmongSite, AmongRobots, InMission, Ended}
 use Rattle.scenario.specs.declared.stop.Stop.{Stop}
@@ -39,6 +40,12 @@ pub record IsOpen (d : Declared) (m : Mission) : Type 0 where
   pub legs : IsMission d.site m.legs
   pub blocks : All (IsBlock d.site) m.blocks
   pub deep : length m.blocks ≤ 4
+
+-- the lengths of an open mission and of its blocks are few
+pub record IsOpenShort (legs : List Goal) (blocks : List Block) : Type 0 where
+  pub legs_few : length legs ≤ MAX_LEGS
+  pub each : All (λ b. (b.times ≤ 64) × (length b.before ≤ MAX_LEGS)) blocks
+  pub few : length blocks ≤ 4
 
 -- no robot among the site lines, and one at least behind the end
 abbrev pub IsReached : State → Type 0

@@ -1,5 +1,5 @@
 -- What the lines of a mission add to it, and when they are bad. The words are those behind the keyword.
-use Rattle.std.specs.Prelude.{ℕ, suc, zero, ◌+◌, ◌*◌, ◌==◌, Bool, true, false, not, nat_le, nat_lt, List, [], ◌∷◌, ◌++◌, length, slice_set, Option, Some, None, Result}
+use Rattle.std.specs.Prelude.{ℕ, suc, zero, ◌+◌, ◌-◌, ◌*◌, ◌==◌, Bool, true, false, not, nat_le, nat_lt, List, [], ◌∷◌, ◌++◌, length, take, slice_index_or, slice_set, Option, Some, None, Result}
 use Rattle.std.specs.List.{list_all}
 use Rattle.std.specs.Option.{is_some, unwrap_or}
 use Rattle.std.specs.Str.Parse.{digits_value}
@@ -33,25 +33,23 @@ abbrev pub repeated : ℕ → List Goal → List Goal
 repeated zero legs = []
 repeated (suc n) legs = legs ++ repeated n legs
 
--- the innermost open block; one that is never read where none is open
+-- the innermost of open blocks, the last; where none is open one that nothing reads
 abbrev pub innermost : List Block → Block
-innermost [] = record { times = 0; before = [] }
-innermost (block ∷ blocks) = block
+innermost blocks = slice_index_or blocks (length blocks - 1) (record { times = 0; before = [] })
 
 -- the blocks around it
 abbrev pub outer : List Block → List Block
-outer [] = []
-outer (block ∷ blocks) = blocks
+outer blocks = take (length blocks - 1) blocks
 
 -- `visit GOAL`
-abbrev pub visit_line : Declared → Mission → List (List ℕ) → Result Mission Code
-visit_line d m words =
-    let goal = unwrap_or (goal_named d.names (word words 0)) (goals.Area 0) in
+abbrev pub visit_line : Named → Mission → List (List ℕ) → Result Mission Code
+visit_line names m words =
+    let goal = unwrap_or (goal_named names (word words 0)) (goals.Area 0) in
     judged
     (few 1 words
     ∷ many 1 words
     ∷ row (not (list_all is_name words)) S7
-    ∷ row (not (is_some (goal_named d.names (word words 0)))) S11
+    ∷ row (not (is_some (goal_named names (word words 0)))) S11
     ∷ row (nat_lt MAX_LEGS (length m.legs + 1)) S19
     ∷ [])
     (record m { legs = m.legs ++ goal ∷ [] })
@@ -65,7 +63,7 @@ repeat_line m words = judged
     ∷ row (is_out_of 1 64 (word words 0)) S9
     ∷ row (nat_le 4 (length m.blocks)) S18
     ∷ [])
-    (record m { legs = []; blocks = record { times = digits_value 10 (word words 0); before = m.legs } ∷ m.blocks })
+    (record m { legs = []; blocks = m.blocks ++ record { times = digits_value 10 (word words 0); before = m.legs } ∷ [] })
 
 -- `again`: closes the innermost block, which stands as often as its number says
 abbrev pub again_line : Mission → List (List ℕ) → Result Mission Code

@@ -50,7 +50,7 @@ site_line flows d keyword words =
 -- a line in a mission
 abbrev pub leg_line : Declared → Mission → List ℕ → List (List ℕ) → Result State Code
 leg_line d m keyword words =
-    if bytes_eq keyword (codes "visit") then mapped (InMission d) (visit_line d m words) else
+    if bytes_eq keyword (codes "visit") then mapped (InMission d) (visit_line d.names m words) else
     if bytes_eq keyword (codes "repeat") then mapped (InMission d) (repeat_line m words) else
     if bytes_eq keyword (codes "again") then mapped (InMission d) (again_line m words) else
     if bytes_eq keyword (codes "done") then mapped AmongRobots (done_line d m words) else Err S4

@@ -22,7 +22,7 @@ pub record Block : Type 0 where
   pub times : ℕ
   pub before : List Goal
 
--- an open mission: its robot, the legs so far of the innermost open block, or of the mission where none is open, and the open blocks from the innermost on
+-- an open mission: its robot, the legs so far of the innermost open block, or of the mission where none is open, and the open blocks from the outermost on
 pub record Mission : Type 0 where
   pub robot : ℕ
   pub legs : List Goal

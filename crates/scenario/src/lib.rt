@@ -1,7 +1,9 @@
 //! Scenarios: their text, read and printed.
 #![tactic(auto)]
 
+mod fleet;
 mod ground;
+mod mission;
 pub mod missions;
 mod named;
 pub mod samples;
