@@ -2,4 +2,5 @@ pub mod Lanes
 pub mod Links
 pub mod Openings
 pub mod Repeats
+pub mod Sound
 pub mod Tables

@@ -173,11 +173,7 @@ fn missions_of(alloc: Global, read: Vec<Option<Legs>>) -> Result<Missions, NoMem
 {
     let mut robots = Vec::new(alloc);
     for legs in read {
-        let legs = match legs {
-            Some(legs) => legs,
-            None => Legs::new(alloc),
-        };
-        if robots.push(legs).is_err() {
+        if robots.push(legs.unwrap_or(Legs::new(alloc))).is_err() {
             return Err(NoMemory);
         }
     }

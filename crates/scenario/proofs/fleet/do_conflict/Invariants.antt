@@ -6,4 +6,4 @@ use Rattle.scenario.specs.Scenarios.{do_conflict}
 use Rattle.scenario.proofs.fleet.do_conflict.Given as goal
 
 abbrev pub invariant-loop-claim : goal.invariant-loop-claim
-invariant-loop-claim l = list_any (λ c. is_kept_from (site_of l.site) c l.fn.other) (drop l.claim-index l.own) ≡ do_conflict l.site l.fn.one l.fn.other
+invariant-loop-claim l = list_any (λ c. is_kept_from (site_of l.site) c l.fn.other) (drop l.claim-index l.claim-items) ≡ do_conflict l.site l.fn.one l.fn.other
