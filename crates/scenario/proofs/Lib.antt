@@ -1,6 +1,9 @@
+pub mod Fines
 pub mod Lanes
 pub mod Links
+pub mod Naming
 pub mod Openings
+pub mod Reached
 pub mod Repeats
 pub mod Sound
 pub mod Tables

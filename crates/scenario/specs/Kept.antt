@@ -2,7 +2,7 @@
 use Rattle.std.specs.Prelude.{◌≡◌, ℕ, ◌<◌, ◌≤◌, false, List, [], length, All, AllPairs}
 use Rattle.std.specs.Option.{unwrap_or}
 use Rattle.fleet_base.specs.declared.limits.TheConstants.{MAX_LEGS, MAX_LINKS, MAX_ROBOTS}
-use Rattle.fleet_names.specs.Names.{Named}
+use Rattle.fleet_names.specs.Names.{AreDeclared}
 use Rattle.site_lines.specs.declared.fault.Code.TheVariants.{S11, S12, S13, S14, S15, S23}
 use Rattle.site_map.specs.Built.{BuiltSite, link_total}
 use Rattle.site_map.specs.declared.refused.BuildRefused.{BuildRefused}
@@ -25,9 +25,14 @@ pub record IsSound (d : Declared) : Type 0 where
   pub few : length d.starts ≤ MAX_ROBOTS
   pub starts : All (λ c. c.0 < d.site.cells) d.starts
   pub apart : AllPairs (λ a b. do_conflict d.site a b ≡ false) d.starts
+  pub declared : AreDeclared d.names
   pub named : NamesAll d.names d.site (length d.starts)
   pub missions : length d.missions ≡ length d.starts
   pub legs : All (λ m. IsMission d.site (unwrap_or m [])) d.missions
+
+-- no robot is declared yet
+abbrev pub IsBare : Declared → Type 0
+IsBare d = IsSound d × (d.starts ≡ []) × (d.missions ≡ [])
 
 -- the block stands at most 64 times, and the legs before it are few
 pub record IsBlock (site : BuiltSite) (block : Block) : Type 0 where
@@ -50,7 +55,7 @@ pub record IsOpenShort (legs : List Goal) (blocks : List Block) : Type 0 where
 -- no robot among the site lines, and one at least behind the end
 abbrev pub IsReached : State → Type 0
 IsReached AtHeader = Unit {0}
-IsReached (AmongSite flows d) = IsSound d × (d.starts ≡ []) × (d.missions ≡ [])
+IsReached (AmongSite flows d) = IsBare d
 IsReached (AmongRobots d) = IsSound d
 IsReached (InMission d m) = IsSound d × IsOpen d m
 IsReached (Ended d) = IsSound d × (1 ≤ length d.starts)

@@ -5,6 +5,8 @@ pub mod States
 pub mod SiteLines
 pub mod FleetLines
 pub mod MissionLines
+pub mod Keywords
 pub mod Reading
 pub mod Canonical
 pub mod Kept
+pub mod Readers

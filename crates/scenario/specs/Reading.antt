@@ -1,6 +1,7 @@
 -- How the text of a scenario is read: what each line makes of what was read before, and the scenario in the end.
-use Rattle.std.specs.Prelude.{ℕ, zero, suc, ◌+◌, ◌==◌, ◌&&◌, Bool, true, false, if◌then◌else◌, List, [], ◌∷◌, codes, Result, Ok, Err}
+use Rattle.std.specs.Prelude.{ℕ, zero, suc, ◌+◌, ◌||◌, not, Bool, true, false, if◌then◌else◌, List, [], ◌∷◌, codes, Option, Some, None, Result, Ok, Err}
 use Rattle.std.specs.Str.{bytes_eq}
+use Rattle.fleet_names.specs.Names.{Named}
 use Rattle.site_lines.specs.declared.fault.At.{At}
 use Rattle.site_lines.specs.declared.fault.Code.{Code}
 use Rattle.site_lines.specs.declared.fault.Code.TheVariants.{S1, S2, S3, S4, S21, S22}
@@ -8,7 +9,15 @@ use Rattle.site_lines.specs.Lines.{is_feed, is_too_long, lines_of, without_retur
 use Rattle.site_lines.specs.Readings.{onward, read_from}
 use Rattle.site_lines.specs.Words.{has_bad_byte, words_of}
 use Rattle.site_map.specs.Built.{completed_site}
+use Rattle.scenario.specs.declared.keyword.Keyword.{Keyword}
+use Rattle.scenario.specs.declared.keyword.Keyword.TheVariants as keywords
+use Rattle.scenario.specs.declared.keyword.Keyword.TheVariants.{Site, Robot, Leg, Done, End}
+use Rattle.scenario.specs.declared.keyword.LegWord.{LegWord}
+use Rattle.scenario.specs.declared.keyword.LegWord.TheVariants.{Visit, Repeat, Again}
+use Rattle.scenario.specs.declared.keyword.SiteWord.{SiteWord}
+use Rattle.scenario.specs.declared.keyword.SiteWord.TheVariants.{Cell, Crossing, Area, Flow, Link, Lane}
 use Rattle.scenario.specs.FleetLines.{end_line, mission_line, robot_line}
+use Rattle.scenario.specs.Keywords.{keyword_of}
 use Rattle.scenario.specs.MissionLines.{again_line, done_line, repeat_line, visit_line}
 use Rattle.scenario.specs.Scenarios.{ScenarioValue}
 use Rattle.scenario.specs.SiteLines.{area_line, cell_line, crossing_line, flow_line, lane_line, link_line}
@@ -26,42 +35,69 @@ header_line keyword [] = Err S3
 header_line keyword (version ∷ other ∷ more) = Err S3
 
 -- a line among the robots and missions
-abbrev pub fleet_line : Declared → List ℕ → List (List ℕ) → Result State Code
-fleet_line d keyword words =
-    if bytes_eq keyword (codes "robot") then mapped AmongRobots (robot_line d words) else
-    if bytes_eq keyword (codes "mission") then mapped (InMission d) (mission_line d words) else
-    if bytes_eq keyword (codes "end") then mapped Ended (end_line d words) else Err S4
+abbrev pub fleet_line : Declared → Option Keyword → List (List ℕ) → Result State Code
+fleet_line d None words = Err S4
+fleet_line d (Some (Site word)) words = Err S4
+fleet_line d (Some Robot) words = mapped AmongRobots (robot_line d words)
+fleet_line d (Some keywords.Mission) words = mapped (InMission d) (mission_line d words)
+fleet_line d (Some (Leg word)) words = Err S4
+fleet_line d (Some Done) words = Err S4
+fleet_line d (Some End) words = mapped Ended (end_line d words)
+
+-- what a site line declares
+abbrev pub declared_by : Declared → SiteWord → List (List ℕ) → Result Declared Code
+declared_by d Cell words = cell_line d words
+declared_by d Crossing words = crossing_line d words
+declared_by d Area words = area_line d words
+declared_by d Flow words = flow_line d words
+declared_by d Link words = link_line d words
+declared_by d Lane words = lane_line d words
 
 -- the site is closed: the rest of each crossing is its last flow
 abbrev pub closed : Declared → Declared
 closed d = record d { site = completed_site d.site }
 
--- a line among the site lines; the first line that isn't one is the first of the others
-abbrev pub site_line : Bool → Declared → List ℕ → List (List ℕ) → Result State Code
-site_line flows d keyword words =
-    if bytes_eq keyword (codes "cell") then mapped (AmongSite flows) (cell_line d words) else
-    if bytes_eq keyword (codes "crossing") then mapped (AmongSite flows) (crossing_line d words) else
-    if bytes_eq keyword (codes "area") then mapped (AmongSite flows) (area_line d words) else
-    if bytes_eq keyword (codes "link") then mapped (AmongSite flows) (link_line d words) else
-    if bytes_eq keyword (codes "lane") then mapped (AmongSite flows) (lane_line d words) else
-    if bytes_eq keyword (codes "flow") && flows then mapped (AmongSite flows) (flow_line d words) else
-    fleet_line (closed d) keyword words
+abbrev pub is_flow : SiteWord → Bool
+is_flow Cell = false
+is_flow Crossing = false
+is_flow Area = false
+is_flow Flow = true
+is_flow Link = false
+is_flow Lane = false
+
+-- a line among the site lines; one that isn't a site line is the first of the others
+abbrev pub site_line : Bool → Declared → Option Keyword → List (List ℕ) → Result State Code
+site_line flows d None words = Err S4
+site_line flows d (Some (Site word)) words = if flows || not (is_flow word) then mapped (AmongSite flows) (declared_by d word words) else Err S4
+site_line flows d (Some Robot) words = fleet_line (closed d) (Some Robot) words
+site_line flows d (Some keywords.Mission) words = fleet_line (closed d) (Some keywords.Mission) words
+site_line flows d (Some (Leg word)) words = Err S4
+site_line flows d (Some Done) words = Err S4
+site_line flows d (Some End) words = fleet_line (closed d) (Some End) words
+
+-- what a line adds to a mission
+abbrev pub added_by : Named → Mission → LegWord → List (List ℕ) → Result Mission Code
+added_by names m Visit words = visit_line names m words
+added_by names m Repeat words = repeat_line m words
+added_by names m Again words = again_line m words
 
 -- a line in a mission
-abbrev pub leg_line : Declared → Mission → List ℕ → List (List ℕ) → Result State Code
-leg_line d m keyword words =
-    if bytes_eq keyword (codes "visit") then mapped (InMission d) (visit_line d.names m words) else
-    if bytes_eq keyword (codes "repeat") then mapped (InMission d) (repeat_line m words) else
-    if bytes_eq keyword (codes "again") then mapped (InMission d) (again_line m words) else
-    if bytes_eq keyword (codes "done") then mapped AmongRobots (done_line d m words) else Err S4
+abbrev pub leg_line : Declared → Mission → Option Keyword → List (List ℕ) → Result State Code
+leg_line d m None words = Err S4
+leg_line d m (Some (Site word)) words = Err S4
+leg_line d m (Some Robot) words = Err S4
+leg_line d m (Some keywords.Mission) words = Err S4
+leg_line d m (Some (Leg word)) words = mapped (InMission d) (added_by d.names m word words)
+leg_line d m (Some Done) words = mapped AmongRobots (done_line d m words)
+leg_line d m (Some End) words = Err S4
 
 -- a line with a word
 abbrev pub keyword_line : State → List ℕ → List (List ℕ) → Result State Code
-keyword_line AtHeader keyword words = header_line keyword words
-keyword_line (AmongSite flows d) keyword words = site_line flows d keyword words
-keyword_line (AmongRobots d) keyword words = fleet_line d keyword words
-keyword_line (InMission d m) keyword words = leg_line d m keyword words
-keyword_line (Ended d) keyword words = Err S21
+keyword_line AtHeader word words = header_line word words
+keyword_line (AmongSite flows d) word words = site_line flows d (keyword_of word) words
+keyword_line (AmongRobots d) word words = fleet_line d (keyword_of word) words
+keyword_line (InMission d m) word words = leg_line d m (keyword_of word) words
+keyword_line (Ended d) word words = Err S21
 
 -- a line by its words; a blank one is skipped
 abbrev pub worded_line : State → List (List ℕ) → Result State Code

@@ -3,9 +3,11 @@
 
 mod fleet;
 mod ground;
+mod keyword;
 mod mission;
 pub mod missions;
 mod named;
+mod reader;
 pub mod samples;
 pub mod scenario;
 pub mod stop;

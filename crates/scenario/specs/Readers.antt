@@ -1,0 +1,12 @@
+-- How a reader is seen.
+use Rattle.scenario.specs.States.{State, AtHeader, AmongSite, AmongRobots, InMission, Ended}
+use Rattle.scenario.specs.declared.reader.Reader.{Reader}
+use Rattle.scenario.specs.declared.reader.Reader.TheVariants as readers
+
+-- where the reader is
+abbrev pub state_of : Reader → State
+state_of readers.Header = AtHeader
+state_of (readers.Site ground flows) = AmongSite flows ground
+state_of (readers.Fleet fleet) = AmongRobots fleet
+state_of (readers.Mission fleet mission) = InMission fleet mission
+state_of (readers.Ended fleet) = Ended fleet
