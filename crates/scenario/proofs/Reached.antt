@@ -1,5 +1,5 @@
 -- What lines that are accepted have made sure of.
-use Rattle.std.proofs.Common.{◌≡◌, ℕ, zero, suc, ◌+◌, ◌-◌, ◌*◌, ◌<◌, ◌≤◌, Bool, true, false, not, cond, eqb, leb, ltb, List, [], ◌∷◌, ◌++◌, length, map, set, take, drop, get_or, Option, Some, None, Ok, Err, Result, refl, sym, ap, subst, ◌∙◌, arith, length-append, add-zero}
+use Rattle.std.proofs.Common.{◌≡◌, ℕ, zero, suc, ◌+◌, ◌-◌, ◌*◌, ◌<◌, ◌≤◌, Bool, true, false, not, ◌&&◌, cond, eqb, leb, ltb, List, [], ◌∷◌, ◌++◌, length, map, set, take, drop, get_or, Option, Some, None, Ok, Err, Result, refl, sym, ap, subst, ◌∙◌, arith, length-append, length-take-le, add-zero}
 use Rattle.std.specs.Prelude.{All, AllPairs}
 use Rattle.std.specs.List.{list_all, list_any}
 use Rattle.std.specs.Option.{is_some, unwrap_or}
@@ -16,18 +16,19 @@ use Rattle.fleet_names.specs.Things.{is_area, is_cell, is_crossing, is_robot}
 use Rattle.fleet_names.proofs.Adding.{AreDeclared-push}
 use Rattle.site_lines.specs.declared.fault.Code.{Code}
 use Rattle.site_lines.specs.Readings.{Row}
-use Rattle.site_map.specs.Built.{BuiltSite, completed_site, with_area, with_crossing, with_flow, with_link}
-use Rattle.site_map.specs.Crossings.{completed}
+use Rattle.site_map.specs.Built.{BuiltSite, completed_site, crossing_at, with_area, with_crossing, with_flow, with_link}
+use Rattle.site_map.specs.Cells.{in_order}
+use Rattle.site_map.specs.Crossings.{completed, with_line}
 use Rattle.site_map.specs.Goals.{IsGoal}
 use Rattle.site_map.specs.declared.goal.Goal.{Goal}
 use Rattle.site_map.specs.declared.goal.Goal.TheVariants as goals
-use Rattle.scenario.specs.FleetLines.{end_line, mission_line, robot_at, robot_line, robot_named, robot_rows}
+use Rattle.scenario.specs.FleetLines.{end_line, end_rows, mission_line, mission_rows, robot_at, robot_line, robot_named, robot_rows}
 use Rattle.scenario.specs.Kept.{IsBare, IsBlock, IsOpen, IsReached, IsSound}
-use Rattle.scenario.specs.MissionLines.{again_line, done_line, goal_named, innermost, outer, repeated, repeat_line, visit_line}
-use Rattle.scenario.specs.Reading.{closed}
+use Rattle.scenario.specs.MissionLines.{again_line, again_rows, done_line, done_rows, goal_at, goal_named, innermost, opened, outer, repeated, repeat_line, repeat_rows, visit_line, visit_rows}
+use Rattle.scenario.specs.Reading.{closed, keyword_line, step}
 use Rattle.scenario.specs.Scenarios.{do_conflict, IsMission, NamesAll}
-use Rattle.scenario.specs.SiteLines.{area_line, area_rows, cell_at, cell_line, cell_named, cells_named, crossing_line, crossing_rows, ends_rows, flow_line, flow_rows, is_out_of, is_taken, lane_line, lane_rows, link_line, link_rows, linked, new_set_rows, old_set_rows, with_cell_names, with_cells, with_name, has_taken}
-use Rattle.scenario.specs.States.{Block, Declared, Mission}
+use Rattle.scenario.specs.SiteLines.{area_line, area_rows, cell_at, cell_line, cell_named, cell_rows, cells_named, crossing_named, crossing_line, crossing_rows, ends_rows, flow_line, flow_rows, is_out_of, is_taken, lane_line, lane_rows, link_line, link_rows, linked, new_set_rows, old_set_rows, with_cell_names, with_cells, with_name, has_taken}
+use Rattle.scenario.specs.States.{Block, Declared, Mission, State, AtHeader, AmongSite, AmongRobots, InMission, Ended}
 use Rattle.scenario.specs.Tables.{few, judged, many, row, word, IsFine}
 use Rattle.scenario.proofs.Fines.{fines, judged_fine}
 use Rattle.scenario.proofs.Naming.{cell_known, declared_cells, free_none, goal_known, named_cells, named_more, robot_known, word_is_name}
@@ -55,9 +56,9 @@ ground_reached rows new d is none empty names =
     subst IsBare fine.1 (sound_ground new none empty parts.0 parts.1, none, empty)
 
 pub cell_reached : (d e : Declared) (words : List (List ℕ)) → IsBare d → cell_line d words ≡ Ok e → IsBare e
-cell_reached d e words bare is = ground_reached _ (record d { site = with_cells d.site words; names = with_cell_names d.names words }) e is bare.1 bare.2
+cell_reached d e words bare is = ground_reached (cell_rows d words) (record d { site = with_cells d.site words; names = with_cell_names d.names words }) e is bare.1 bare.2
     (λ fine.
-    let f = fines _ fine in
+    let f = fines (cell_rows d words) fine in
     (declared_cells words d.names bare.0.declared (not-false (list_all is_name words) f.1.0) f.1.1.0, named_cells words d.names d.site 0 (named_bare d bare)))
 
 -- a name that is new and good
@@ -92,14 +93,26 @@ same_names : (names : Named) (site site' : BuiltSite) (n : ℕ) → NamesAll nam
 same_names names site site' n all cells crossings areas = record { cells = all.cells ∙ sym cells; crossings = all.crossings ∙ sym crossings; areas = all.areas ∙ sym areas; robots = all.robots }
 
 pub flow_reached : (d e : Declared) (words : List (List ℕ)) → IsBare d → flow_line d words ≡ Ok e → IsBare e
-flow_reached d e words bare is = ground_reached _ _ e is bare.1 bare.2
-    (λ fine. (bare.0.declared, same_names d.names d.site _ 0 (named_bare d bare) refl (length-set d.site.crossings _ _) refl))
+flow_reached d e words bare is =
+    let k : ℕ = unwrap_or (crossing_named d.names (word words 0)) 0 in
+    let cells : List CellNo = cells_named d.names (drop 1 words) in
+    ground_reached (old_set_rows d.names words ++ flow_rows d.site k cells) (record d { site = with_flow d.site k cells }) e is bare.1 bare.2
+    (λ fine. (bare.0.declared, same_names d.names d.site (with_flow d.site k cells) 0 (named_bare d bare) refl (length-set d.site.crossings k (with_line (crossing_at d.site k) (in_order d.site.cells cells))) refl))
 
 pub link_reached : (d e : Declared) (words : List (List ℕ)) → IsBare d → link_line d words ≡ Ok e → IsBare e
-link_reached d e words bare is = ground_reached _ _ e is bare.1 bare.2 (λ fine. (bare.0.declared, same_names d.names d.site _ 0 (named_bare d bare) refl refl refl))
+link_reached d e words bare is =
+    let a : CellNo = cell_at d.names (word words 0) in
+    let b : CellNo = cell_at d.names (word words 1) in
+    let site : BuiltSite = linked d.site a b (digits_value 10 (word words 2)) in
+    ground_reached (ends_rows d.names words ++ link_rows d.site a b) (record d { site = site }) e is bare.1 bare.2 (λ fine. (bare.0.declared, same_names d.names d.site site 0 (named_bare d bare) refl refl refl))
 
 pub lane_reached : (d e : Declared) (words : List (List ℕ)) → IsBare d → lane_line d words ≡ Ok e → IsBare e
-lane_reached d e words bare is = ground_reached _ _ e is bare.1 bare.2 (λ fine. (bare.0.declared, same_names d.names d.site _ 0 (named_bare d bare) refl refl refl))
+lane_reached d e words bare is =
+    let a : CellNo = cell_at d.names (word words 0) in
+    let b : CellNo = cell_at d.names (word words 1) in
+    let cost : ℕ = digits_value 10 (word words 2) in
+    let site : BuiltSite = linked (linked d.site a b cost) b a cost in
+    ground_reached (ends_rows d.names words ++ lane_rows d.site a b) (record d { site = site }) e is bare.1 bare.2 (λ fine. (bare.0.declared, same_names d.names d.site site 0 (named_bare d bare) refl refl refl))
 
 pub closed_sound : (d : Declared) → IsBare d → IsSound (closed d)
 closed_sound d bare = sound_ground (closed d) bare.1 bare.2 bare.0.declared (same_names d.names d.site (completed_site d.site) 0 (named_bare d bare) refl (length-map d.site.crossings completed) refl)
@@ -134,8 +147,8 @@ robot_reached d e words sound is =
 
 pub mission_reached : (d : Declared) (m : Mission) (words : List (List ℕ)) → IsSound d → mission_line d words ≡ Ok m → IsOpen d m
 mission_reached d m words sound is =
-    let fine = judged_fine _ _ m is in
-    let f = fines _ fine.0 in
+    let fine = judged_fine (mission_rows d words) (record { robot = robot_at d.names (word words 0); legs = []; blocks = [] }) m is in
+    let f = fines (mission_rows d words) fine.0 in
     subst (IsOpen d) fine.1 (record {
       robot = subst (λ n. robot_at d.names (word words 0) < n) sound.named.robots (robot_known d.names (word words 0) sound.declared (not-false (is_some (robot_named d.names (word words 0))) f.1.1.1.0));
       legs = no_legs d.site;
@@ -145,15 +158,15 @@ mission_reached d m words sound is =
 
 pub end_reached : (d e : Declared) (words : List (List ℕ)) → IsSound d → end_line d words ≡ Ok e → IsSound e × (1 ≤ length e.starts)
 end_reached d e words sound is =
-    let fine = judged_fine _ d e is in
-    let f = fines _ fine.0 in
+    let fine = judged_fine (end_rows d words) d e is in
+    let f = fines (end_rows d words) fine.0 in
     let some : length d.starts ≡ 0 → ⊥ = eqb-false (length d.starts) 0 f.1.0 in
     subst (λ (x : Declared). IsSound x × (1 ≤ length x.starts)) fine.1 (sound, omega arith)
 
 pub visit_reached : (d : Declared) (m n : Mission) (words : List (List ℕ)) → IsSound d → IsOpen d m → visit_line d.names m words ≡ Ok n → IsOpen d n
 visit_reached d m n words sound reached is =
-    let fine = judged_fine _ _ n is in
-    let f = fines _ fine.0 in
+    let fine = judged_fine (visit_rows d.names m words) (record m { legs = m.legs ++ goal_at d.names (word words 0) ∷ [] }) n is in
+    let f = fines (visit_rows d.names m words) fine.0 in
     let few : length m.legs + 1 ≤ 64 = ltb-false 64 (length m.legs + 1) f.1.1.1.1.0 in
     let goal : Goal = unwrap_or (goal_named d.names (word words 0)) (goals.Area 0) in
     let more : length (m.legs ++ goal ∷ []) ≡ length m.legs + 1 = length-append m.legs (goal ∷ []) in
@@ -169,9 +182,9 @@ visit_reached d m n words sound reached is =
 
 pub repeat_reached : (d : Declared) (m n : Mission) (words : List (List ℕ)) → IsOpen d m → repeat_line m words ≡ Ok n → IsOpen d n
 repeat_reached d m n words reached is =
-    let fine = judged_fine _ _ n is in
-    let f = fines _ fine.0 in
-    let within = and_parts (leb 1 (digits_value 10 (word words 0))) (leb (digits_value 10 (word words 0)) 64) (not-false _ f.1.1.1.0) in
+    let fine = judged_fine (repeat_rows m words) (record m { legs = []; blocks = m.blocks ++ opened (digits_value 10 (word words 0)) m.legs ∷ [] }) n is in
+    let f = fines (repeat_rows m words) fine.0 in
+    let within = and_parts (leb 1 (digits_value 10 (word words 0))) (leb (digits_value 10 (word words 0)) 64) (not-false (leb 1 (digits_value 10 (word words 0)) && leb (digits_value 10 (word words 0)) 64) f.1.1.1.0) in
     let times : digits_value 10 (word words 0) ≤ 64 = leb-true (digits_value 10 (word words 0)) 64 within.1 in
     let shallow : length m.blocks < 4 = leb-false 4 (length m.blocks) f.1.1.1.1.0 in
     let block : Block = record { times = digits_value 10 (word words 0); before = m.legs } in
@@ -189,8 +202,8 @@ repeated_goals site (suc n) legs all = All-append (IsGoal site) legs (repeated n
 
 pub again_reached : (d : Declared) (m n : Mission) (words : List (List ℕ)) → IsOpen d m → again_line m words ≡ Ok n → IsOpen d n
 again_reached d m n words reached is =
-    let fine = judged_fine _ _ n is in
-    let f = fines _ fine.0 in
+    let fine = judged_fine (again_rows m words) (record m { legs = (innermost m.blocks).before ++ repeated (innermost m.blocks).times m.legs; blocks = outer m.blocks }) n is in
+    let f = fines (again_rows m words) fine.0 in
     let block : Block = innermost m.blocks in
     let some : length m.blocks ≡ 0 → ⊥ = eqb-false (length m.blocks) 0 f.1.0 in
     let kept : IsBlock d.site block = All-get_or (IsBlock d.site) m.blocks (length m.blocks - 1) (record { times = 0; before = [] }) (omega arith) reached.blocks in
@@ -209,7 +222,7 @@ again_reached d m n words reached is =
 
 pub done_reached : (d e : Declared) (m : Mission) (words : List (List ℕ)) → IsSound d → IsOpen d m → done_line d m words ≡ Ok e → IsSound e
 done_reached d e m words sound reached is =
-    let fine = judged_fine _ _ e is in
+    let fine = judged_fine (done_rows m words) (record d { missions = set d.missions m.robot (Some m.legs) }) e is in
     subst IsSound fine.1 (record {
       few = sound.few;
       starts = sound.starts;
@@ -219,3 +232,9 @@ done_reached d e m words sound reached is =
       missions = length-set d.missions m.robot (Some m.legs) ∙ sound.missions;
       legs = All-set (λ (o : Option (List Goal)). IsMission d.site (unwrap_or o [])) d.missions m.robot (Some m.legs) reached.legs sound.legs;
     })
+
+by_keyword : (s : State) (keyword : List ℕ) (words : List (List ℕ)) (t : State) → IsReached s → keyword_line s keyword words ≡ Ok t → IsReached t
+by_keyword s keyword words t reached is = ?
+
+pub step_reached : (s t : State) (raw : List ℕ) → IsReached s → step s raw ≡ Ok t → IsReached t
+step_reached s t raw reached is = ?

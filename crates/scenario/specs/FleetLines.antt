@@ -50,19 +50,24 @@ robot_line d words = judged (robot_rows d words) (record d {
 abbrev pub robot_at : Named → List ℕ → ℕ
 robot_at names name = unwrap_or (robot_named names name) 0
 
--- `mission ROBOT`
-abbrev pub mission_line : Declared → List (List ℕ) → Result Mission Code
-mission_line d words =
-    let robot = robot_at d.names (word words 0) in
-    judged
-    (few 1 words
+-- the faults of a mission that is opened
+abbrev pub mission_rows : Declared → List (List ℕ) → List Row
+mission_rows d words =
+    few 1 words
     ∷ many 1 words
     ∷ row (not (list_all is_name words)) S7
     ∷ row (not (is_some (robot_named d.names (word words 0)))) S11
-    ∷ row (is_some (slice_index_or d.missions robot None)) S17
-    ∷ [])
-    (record { robot = robot; legs = []; blocks = [] })
+    ∷ row (is_some (slice_index_or d.missions (robot_at d.names (word words 0)) None)) S17
+    ∷ []
+
+-- `mission ROBOT`
+abbrev pub mission_line : Declared → List (List ℕ) → Result Mission Code
+mission_line d words = judged (mission_rows d words) (record { robot = robot_at d.names (word words 0); legs = []; blocks = [] })
+
+-- the faults of the end
+abbrev pub end_rows : Declared → List (List ℕ) → List Row
+end_rows d words = many 0 words ∷ row (length d.starts == 0) S20 ∷ []
 
 -- `end`
 abbrev pub end_line : Declared → List (List ℕ) → Result Declared Code
-end_line d words = judged (many 0 words ∷ row (length d.starts == 0) S20 ∷ []) d
+end_line d words = judged (end_rows d words) d

@@ -10,6 +10,7 @@ use Rattle.fleet_names.specs.Names.{Named, is_name, thing_of}
 use Rattle.site_lines.specs.declared.fault.Code.{Code}
 use Rattle.site_lines.specs.declared.fault.Code.TheVariants.{S7, S8, S9, S11, S18, S19}
 use Rattle.site_lines.specs.Numbers.{is_number}
+use Rattle.site_lines.specs.Readings.{Row}
 use Rattle.site_map.specs.declared.goal.Goal.{Goal}
 use Rattle.site_map.specs.declared.goal.Goal.TheVariants as goals
 use Rattle.scenario.specs.SiteLines.{is_out_of}
@@ -41,43 +42,60 @@ innermost blocks = slice_index_or blocks (length blocks - 1) (record { times = 0
 abbrev pub outer : List Block → List Block
 outer blocks = take (length blocks - 1) blocks
 
--- `visit GOAL`
-abbrev pub visit_line : Named → Mission → List (List ℕ) → Result Mission Code
-visit_line names m words =
-    let goal = unwrap_or (goal_named names (word words 0)) (goals.Area 0) in
-    judged
-    (few 1 words
+-- the faults of a leg
+abbrev pub visit_rows : Named → Mission → List (List ℕ) → List Row
+visit_rows names m words =
+    few 1 words
     ∷ many 1 words
     ∷ row (not (list_all is_name words)) S7
     ∷ row (not (is_some (goal_named names (word words 0)))) S11
     ∷ row (nat_lt MAX_LEGS (length m.legs + 1)) S19
-    ∷ [])
-    (record m { legs = m.legs ++ goal ∷ [] })
+    ∷ []
 
--- `repeat TIMES`: opens a block, at most 4 deep
-abbrev pub repeat_line : Mission → List (List ℕ) → Result Mission Code
-repeat_line m words = judged
-    (few 1 words
+-- the goal that a word names; an area where it names none
+abbrev pub goal_at : Named → List ℕ → Goal
+goal_at names name = unwrap_or (goal_named names name) (goals.Area 0)
+
+-- `visit GOAL`
+abbrev pub visit_line : Named → Mission → List (List ℕ) → Result Mission Code
+visit_line names m words = judged (visit_rows names m words) (record m { legs = m.legs ++ goal_at names (word words 0) ∷ [] })
+
+-- the faults of a block that is opened, at most 4 deep
+abbrev pub repeat_rows : Mission → List (List ℕ) → List Row
+repeat_rows m words =
+    few 1 words
     ∷ many 1 words
     ∷ row (not (is_number 9 (word words 0))) S8
     ∷ row (is_out_of 1 64 (word words 0)) S9
     ∷ row (nat_le 4 (length m.blocks)) S18
-    ∷ [])
-    (record m { legs = []; blocks = m.blocks ++ record { times = digits_value 10 (word words 0); before = m.legs } ∷ [] })
+    ∷ []
 
--- `again`: closes the innermost block, which stands as often as its number says
-abbrev pub again_line : Mission → List (List ℕ) → Result Mission Code
-again_line m words =
-    let block = innermost m.blocks in
-    judged
-    (many 0 words
+-- a block that is to stand so many times, behind these legs
+abbrev pub opened : ℕ → List Goal → Block
+opened times legs = record { times = times; before = legs }
+
+-- `repeat TIMES`
+abbrev pub repeat_line : Mission → List (List ℕ) → Result Mission Code
+repeat_line m words = judged (repeat_rows m words) (record m { legs = []; blocks = m.blocks ++ opened (digits_value 10 (word words 0)) m.legs ∷ [] })
+
+-- the faults of a block that is closed
+abbrev pub again_rows : Mission → List (List ℕ) → List Row
+again_rows m words =
+    many 0 words
     ∷ row (length m.blocks == 0) S18
-    ∷ row (nat_lt MAX_LEGS (length block.before + block.times * length m.legs)) S19
-    ∷ [])
-    (record m { legs = block.before ++ repeated block.times m.legs; blocks = outer m.blocks })
+    ∷ row (nat_lt MAX_LEGS (length (innermost m.blocks).before + (innermost m.blocks).times * length m.legs)) S19
+    ∷ []
 
--- `done`: closes the mission
+-- `again`: the innermost block stands as often as its number says
+abbrev pub again_line : Mission → List (List ℕ) → Result Mission Code
+again_line m words = judged (again_rows m words) (record m {
+    legs = (innermost m.blocks).before ++ repeated (innermost m.blocks).times m.legs;
+    blocks = outer m.blocks })
+
+-- the faults of a mission that is closed
+abbrev pub done_rows : Mission → List (List ℕ) → List Row
+done_rows m words = many 0 words ∷ row (not (length m.blocks == 0)) S18 ∷ []
+
+-- `done`
 abbrev pub done_line : Declared → Mission → List (List ℕ) → Result Declared Code
-done_line d m words = judged
-    (many 0 words ∷ row (not (length m.blocks == 0)) S18 ∷ [])
-    (record d { missions = slice_set d.missions m.robot (Some m.legs) })
+done_line d m words = judged (done_rows m words) (record d { missions = slice_set d.missions m.robot (Some m.legs) })

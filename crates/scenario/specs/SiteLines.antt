@@ -85,15 +85,18 @@ has_link site a b = list_any (λ l. l.to.0 == b.0) (links_at site a)
 abbrev pub is_out_of : ℕ → ℕ → List ℕ → Bool
 is_out_of low high digits = not (nat_le low (digits_value 10 digits) && nat_le (digits_value 10 digits) high)
 
--- `cell NAME NAME ..`
-abbrev pub cell_line : Declared → List (List ℕ) → Result Declared Code
-cell_line d words = judged
-    (few 1 words
+-- the faults of new cells
+abbrev pub cell_rows : Declared → List (List ℕ) → List Row
+cell_rows d words =
+    few 1 words
     ∷ row (not (list_all is_name words)) S7
     ∷ row (has_taken d.names words) S10
     ∷ row (nat_lt MAX_CELLS (d.site.cells + length words)) S13
-    ∷ [])
-    (record d { site = with_cells d.site words; names = with_cell_names d.names words })
+    ∷ []
+
+-- `cell NAME NAME ..`
+abbrev pub cell_line : Declared → List (List ℕ) → Result Declared Code
+cell_line d words = judged (cell_rows d words) (record d { site = with_cells d.site words; names = with_cell_names d.names words })
 
 -- the faults of a new name and at least one cell
 abbrev pub new_set_rows : Named → List (List ℕ) → List Row
