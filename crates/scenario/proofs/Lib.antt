@@ -6,4 +6,5 @@ pub mod Openings
 pub mod Reached
 pub mod Repeats
 pub mod Sound
+pub mod Steps
 pub mod Tables

@@ -232,9 +232,3 @@ done_reached d e m words sound reached is =
       missions = length-set d.missions m.robot (Some m.legs) ∙ sound.missions;
       legs = All-set (λ (o : Option (List Goal)). IsMission d.site (unwrap_or o [])) d.missions m.robot (Some m.legs) reached.legs sound.legs;
     })
-
-by_keyword : (s : State) (keyword : List ℕ) (words : List (List ℕ)) (t : State) → IsReached s → keyword_line s keyword words ≡ Ok t → IsReached t
-by_keyword s keyword words t reached is = ?
-
-pub step_reached : (s t : State) (raw : List ℕ) → IsReached s → step s raw ≡ Ok t → IsReached t
-step_reached s t raw reached is = ?
