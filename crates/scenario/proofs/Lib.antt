@@ -1,6 +1,8 @@
 pub mod Fines
+pub mod Fronts
 pub mod Lanes
 pub mod Links
+pub mod Loops
 pub mod Naming
 pub mod Openings
 pub mod Reached

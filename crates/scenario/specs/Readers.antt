@@ -1,5 +1,7 @@
 -- How a reader is seen.
+use Rattle.scenario.specs.Reading.{FrontValue}
 use Rattle.scenario.specs.States.{State, AtHeader, AmongSite, AmongRobots, InMission, Ended}
+use Rattle.scenario.specs.declared.read.Front.{Front}
 use Rattle.scenario.specs.declared.reader.Reader.{Reader}
 use Rattle.scenario.specs.declared.reader.Reader.TheVariants as readers
 
@@ -10,3 +12,7 @@ state_of (readers.Site ground flows) = AmongSite flows ground
 state_of (readers.Fleet fleet) = AmongRobots fleet
 state_of (readers.Mission fleet mission) = InMission fleet mission
 state_of (readers.Ended fleet) = Ended fleet
+
+-- a front as one value
+abbrev pub front_value : Front → FrontValue
+front_value f = record { scenario = f.scenario; used = f.used; lines = f.lines }

@@ -59,6 +59,11 @@ abbrev pub FailsAt : {Y : Type 0} → ReadRefused → Result Y At → Type 0
 FailsAt refusals.NoMemory due = Unit {0}
 FailsAt (refusals.Bad at) due = due ≡ Err at
 
+-- why a text isn't read of which the line with this number is stopped
+abbrev pub refused_at : Stop → ℕ → ReadRefused
+refused_at (stops.Bad code) line = refusals.Bad (record { line = line; code = code })
+refused_at stops.NoMemory line = refusals.NoMemory
+
 -- what a reader of a whole text returned, seen by view, is what is due, unless memory ran out
 abbrev pub GivesAt : {X Y : Type 0} → (X → Y) → Result X ReadRefused → Result Y At → Type 0
 GivesAt view (Ok x) due = due ≡ Ok (view x)

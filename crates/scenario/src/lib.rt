@@ -7,6 +7,7 @@ mod keyword;
 mod mission;
 pub mod missions;
 mod named;
+pub mod read;
 mod reader;
 pub mod samples;
 pub mod scenario;

@@ -1,6 +1,7 @@
 //! Why a text isn't read.
 
 ghost use Rattle.std.specs.Prelude.{◌≡◌};
+ghost use Rattle.scenario.specs.Tables.{refused_at};
 ghost use Rattle.scenario.specs.declared.stop.Stop.TheVariants as stops;
 
 use fleet_base::path::NoMemory;
@@ -24,6 +25,18 @@ pub(crate) enum Stop {
     Bad(Code),
     // No memory was left.
     NoMemory,
+}
+
+impl Stop {
+    // Why the text isn't read of which the line with this number is stopped.
+    pub(crate) fn at(self, line: u32) -> ReadRefused
+        ensures { result ≡ refused_at self line }
+    {
+        match self {
+            Stop::Bad(code) => ReadRefused::Bad(At { line, code }),
+            Stop::NoMemory => ReadRefused::NoMemory,
+        }
+    }
 }
 
 impl From<Code> for Stop {
