@@ -4,6 +4,7 @@
 mod fleet;
 mod ground;
 mod keyword;
+mod lines;
 mod mission;
 pub mod missions;
 mod named;
