@@ -5,6 +5,7 @@ pub mod Links
 pub mod Loops
 pub mod Naming
 pub mod Openings
+pub mod Prints
 pub mod Reached
 pub mod Repeats
 pub mod Sound

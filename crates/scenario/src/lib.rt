@@ -2,12 +2,14 @@
 #![tactic(auto)]
 
 mod fleet;
+mod flows;
 mod ground;
 mod keyword;
 mod lines;
 mod mission;
 pub mod missions;
 mod named;
+pub mod print;
 pub mod read;
 mod reader;
 pub mod samples;
