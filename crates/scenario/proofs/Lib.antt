@@ -11,3 +11,4 @@ pub mod Repeats
 pub mod Sound
 pub mod Steps
 pub mod Tables
+pub mod Wholes

@@ -1,5 +1,5 @@
 // Which flow of a crossing a cell is in.
-ghost use Rattle.std.specs.Prelude.{◌≡◌, ◌<◌, ◌+◌, true, length, take, IfOk};
+ghost use Rattle.std.specs.Prelude.{◌≡◌, ◌<◌, ◌+◌, ◌++◌, ◌∷◌, [], true, if◌then◌else◌, length, take, IfOk, OnOk};
 ghost use Rattle.site_map.specs.Built.{crossing_at, crossings_with};
 ghost use Rattle.site_map.specs.Cells.{has_cell};
 ghost use Rattle.site_map.specs.Crossings.{crossing_claims, flow_of};
@@ -25,11 +25,20 @@ pub(crate) fn cells_of_flow(
 {
     let mut cells = Vec::new(alloc);
     for cell in site.crossing_cells(crossing) {
-        if flow_of(site, crossing, first, *cell) == flow {
-            cells.extend_from_slice(&[*cell])?;
-        }
+        let is_in = flow_of(site, crossing, first, *cell) == flow;
+        push_if(&mut cells, *cell, is_in)?;
     }
     Ok(cells)
+}
+
+// Appends the cell, where the test says so.
+fn push_if(cells: &mut Vec<CellNo>, cell: CellNo, is_in: bool) -> Result<(), NoMemory>
+    ensures { OnOk result (cells.new.items ≡ (if is_in then cells.old.items ++ cell ∷ [] else cells.old.items)) }
+{
+    if is_in {
+        cells.extend_from_slice(&[cell])?;
+    }
+    Ok(())
 }
 
 // The number of the flow of a crossing that one of its cells is in.
@@ -52,9 +61,19 @@ fn crossings_before(site: &Site, crossing: u32, cell: CellNo) -> usize
 {
     let mut count = 0;
     for earlier in 0..crossing {
-        if site.crossing_cells(earlier).contains(&cell) {
-            count += 1;
-        }
+        count += usize::from(site.crossing_cells(earlier).contains(&cell));
     }
     count
+}
+
+// The first claim behind those of a crossing, whose first claim is handed in.
+pub(crate) fn claims_behind(site: &Site, crossing: u32, first: u32) -> u32
+    requires known { crossing < length site.now.crossings }
+    requires first { first ≡ site.now.cells + crossing_claims (take crossing site.now.crossings) }
+    ensures { result ≡ site.now.cells + crossing_claims (take (crossing + 1) site.now.crossings) }
+{
+    let behind = u64::from(first) + u64::from(site.crossing_flows(crossing).max(1));
+    let claims = u64::from(site.claim_count());
+    prove!(behind <= claims);
+    behind as u32
 }

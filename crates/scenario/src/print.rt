@@ -9,7 +9,7 @@ ghost use Rattle.site_map.specs.Goals.{IsGoal};
 ghost use Rattle.scenario.specs.Canonical.{area_text, canonical_text, cell_text, crossing_text, each, header_text, leg_text, legs_text, links_text, mission_text, robot_text};
 ghost use Rattle.scenario.specs.Scenarios.{IsMission};
 
-use crate::flows::cells_of_flow;
+use crate::flows::{cells_of_flow, claims_behind};
 use crate::lines::{push_bare, push_link, push_one, push_set, push_two};
 use crate::missions::Missions;
 use crate::scenario::{Goal, Scenario};
@@ -76,7 +76,7 @@ fn push_crossings(
     let mut first = site.cell_count();
     for crossing in 0..site.crossing_count() {
         push_crossing(alloc, text, names, site, crossing, first)?;
-        first += site.crossing_flows(crossing).max(1);
+        first = claims_behind(site, crossing, first);
     }
     Ok(())
 }
