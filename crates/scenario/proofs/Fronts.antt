@@ -90,14 +90,17 @@ first_more b bs e = ap (λ n. cond (ltb n (length (b ∷ bs))) (n + 1) n) place 
   where
     p : ℕ
     p = position_or_len is_feed bs
+
     place : position_or_len is_feed (b ∷ bs) ≡ 1 + position_or_len is_feed bs
     place = ap (λ t. cond (not t) (1 + position_or_len is_feed bs) 0) e
+
     ended : position_or_len is_feed bs < length bs → cond (ltb (1 + position_or_len is_feed bs) (length (b ∷ bs))) (1 + position_or_len is_feed bs + 1) (1 + position_or_len is_feed bs) ≡ first_bytes_of bs + 1
     ended l =
         let n : ℕ = position_or_len is_feed bs in
         let one = by_feed (ltb (1 + n) (length (b ∷ bs))) (1 + n + 1) (1 + n) (lt-ltb (1 + n) (length (b ∷ bs)) (omega arith)) in
         let two = by_feed (ltb n (length bs)) (n + 1) n (lt-ltb n (length bs) l) in
         omega (arith, one, two)
+
     open_line : length bs ≤ position_or_len is_feed bs → cond (ltb (1 + position_or_len is_feed bs) (length (b ∷ bs))) (1 + position_or_len is_feed bs + 1) (1 + position_or_len is_feed bs) ≡ first_bytes_of bs + 1
     open_line l =
         let n : ℕ = position_or_len is_feed bs in

@@ -1,3 +1,4 @@
+pub mod Accepted
 pub mod Fines
 pub mod Fronts
 pub mod Lanes

@@ -62,9 +62,9 @@ pub may_open : (s : ScenarioValue) → IsScenario s → (cap : ℕ) → IsOpenin
 may_open s is cap = record {
   first = omega arith;
   apart = λ r q c d differ conflict one other.
-    let held = held_at (site_of s.site) (slice_get s.starts r) c one in
-    let taken = held_at (site_of s.site) (slice_get s.starts q) d other in
-    clash s is r q c d held.0 taken.0 differ conflict held.1 taken.1 held.2 taken.2;
+      let held = held_at (site_of s.site) (slice_get s.starts r) c one in
+      let taken = held_at (site_of s.site) (slice_get s.starts q) d other in
+      clash s is r q c d held.0 taken.0 differ conflict held.1 taken.1 held.2 taken.2;
   places = length-map s.starts (λ a. None);
   routes = λ r route e. absurd (none_pending s.starts r route e);
   room = omega (arith, none_counted s.starts);

@@ -74,9 +74,10 @@ crossing_reached d e words bare is =
     let t = Crossing (count_of is_crossing d.names) in
     ground_reached (new_set_rows d.names words ++ crossing_rows d.site cells) (record d { site = with_crossing d.site cells; names = with_name d.names (word words 0) t }) e is bare.1 bare.2
     (λ fine.
-    let n = new_name d.names words (crossing_rows d.site cells) bare.0.declared fine in
-    (AreDeclared-push d.names (word words 0) t bare.0.declared n.0 n.1 refl,
-    named_more d.names d.site (with_crossing d.site cells) 0 0 (word words 0) t (named_bare d bare) (sym (add-zero _)) (length-append d.site.crossings _) (sym (add-zero _)) refl))
+    let n = new_name d.names words (crossing_rows d.site cells) bare.0.declared fine in (
+      AreDeclared-push d.names (word words 0) t bare.0.declared n.0 n.1 refl,
+      named_more d.names d.site (with_crossing d.site cells) 0 0 (word words 0) t (named_bare d bare) (sym (add-zero _)) (length-append d.site.crossings _) (sym (add-zero _)) refl,
+    ))
 
 pub area_reached : (d e : Declared) (words : List (List ℕ)) → IsBare d → area_line d words ≡ Ok e → IsBare e
 area_reached d e words bare is =
@@ -84,9 +85,10 @@ area_reached d e words bare is =
     let t = Area (count_of is_area d.names) in
     ground_reached (new_set_rows d.names words ++ area_rows d.site cells) (record d { site = with_area d.site cells; names = with_name d.names (word words 0) t }) e is bare.1 bare.2
     (λ fine.
-    let n = new_name d.names words (area_rows d.site cells) bare.0.declared fine in
-    (AreDeclared-push d.names (word words 0) t bare.0.declared n.0 n.1 refl,
-    named_more d.names d.site (with_area d.site cells) 0 0 (word words 0) t (named_bare d bare) (sym (add-zero _)) (sym (add-zero _)) (length-append d.site.areas _) refl))
+    let n = new_name d.names words (area_rows d.site cells) bare.0.declared fine in (
+      AreDeclared-push d.names (word words 0) t bare.0.declared n.0 n.1 refl,
+      named_more d.names d.site (with_area d.site cells) 0 0 (word words 0) t (named_bare d bare) (sym (add-zero _)) (sym (add-zero _)) (length-append d.site.areas _) refl,
+    ))
 
 -- the names stay, and so do the numbers of what they name
 same_names : (names : Named) (site site' : BuiltSite) (n : ℕ) → NamesAll names site n → site'.cells ≡ site.cells → length site'.crossings ≡ length site.crossings → length site'.areas ≡ length site.areas → NamesAll names site' n
@@ -209,7 +211,7 @@ again_reached d m n words reached is =
     let kept : IsBlock d.site block = All-get_or (IsBlock d.site) m.blocks (length m.blocks - 1) (record { times = 0; before = [] }) (omega arith) reached.blocks in
     let room : length block.before + block.times * length m.legs ≤ 64 = ltb-false 64 (length block.before + block.times * length m.legs) f.1.1.0 in
     let long : length (block.before ++ repeated block.times m.legs) ≡ length block.before + block.times * length m.legs =
-        length-append block.before (repeated block.times m.legs) ∙ ap (λ k. length block.before + k) (length-repeated block.times m.legs) in
+    length-append block.before (repeated block.times m.legs) ∙ ap (λ k. length block.before + k) (length-repeated block.times m.legs) in
     subst (IsOpen d) fine.1 (record {
       robot = reached.robot;
       legs = record {

@@ -40,7 +40,7 @@ whole_text s names site starts missions t0 t1 t2 t3 t4 t5 t6 t7 t8 n i r m e0 e1
     let g : List ℕ = each (mission_text names missions) (length missions) in
     let h : List ℕ = line (codes "end") [] in
     let all : t8 ≡ ((((((([] ++ a) ++ b) ++ c) ++ d) ++ e) ++ f) ++ g) ++ h =
-        e8 ∙ ap (λ (xs : List ℕ). xs ++ h) (e7 ∙ ap (λ (xs : List ℕ). xs ++ g) (e6 ∙ ap (λ (xs : List ℕ). xs ++ f) (e5 ∙ ap (λ (xs : List ℕ). xs ++ e) (e4 ∙ ap (λ (xs : List ℕ). xs ++ d) (e3 ∙ ap (λ (xs : List ℕ). xs ++ c) (e2 ∙ ap (λ (xs : List ℕ). xs ++ b) (e1 ∙ ap (λ (xs : List ℕ). xs ++ a) e0))))))) in
+    e8 ∙ ap (λ (xs : List ℕ). xs ++ h) (e7 ∙ ap (λ (xs : List ℕ). xs ++ g) (e6 ∙ ap (λ (xs : List ℕ). xs ++ f) (e5 ∙ ap (λ (xs : List ℕ). xs ++ e) (e4 ∙ ap (λ (xs : List ℕ). xs ++ d) (e3 ∙ ap (λ (xs : List ℕ). xs ++ c) (e2 ∙ ap (λ (xs : List ℕ). xs ++ b) (e1 ∙ ap (λ (xs : List ℕ). xs ++ a) e0))))))) in
     all ∙ grouped a b c d e f g h
     ∙ ap (λ (x : Named). body_of x site starts missions) n ∙ ap (λ (x : BuiltSite). body_of s.names x starts missions) i
     ∙ ap (λ (x : List CellNo). body_of s.names s.site x missions) r ∙ ap (λ (x : List (List Goal)). body_of s.names s.site s.starts x) m

@@ -42,9 +42,10 @@ robot_rows d words =
 -- `robot NAME CELL`
 abbrev pub robot_line : Declared → List (List ℕ) → Result Declared Code
 robot_line d words = judged (robot_rows d words) (record d {
-    names = with_name d.names (word words 0) (things.Robot (count_of is_robot d.names));
-    starts = d.starts ++ cell_at d.names (word words 1) ∷ [];
-    missions = d.missions ++ None ∷ [] })
+  names = with_name d.names (word words 0) (things.Robot (count_of is_robot d.names));
+  starts = d.starts ++ cell_at d.names (word words 1) ∷ [];
+  missions = d.missions ++ None ∷ [];
+})
 
 -- the number that a word names as a robot; 0 where it names none
 abbrev pub robot_at : Named → List ℕ → ℕ

@@ -89,8 +89,9 @@ again_rows m words =
 -- `again`: the innermost block stands as often as its number says
 abbrev pub again_line : Mission → List (List ℕ) → Result Mission Code
 again_line m words = judged (again_rows m words) (record m {
-    legs = (innermost m.blocks).before ++ repeated (innermost m.blocks).times m.legs;
-    blocks = outer m.blocks })
+  legs = (innermost m.blocks).before ++ repeated (innermost m.blocks).times m.legs;
+  blocks = outer m.blocks;
+})
 
 -- the faults of a mission that is closed
 abbrev pub done_rows : Mission → List (List ℕ) → List Row

@@ -28,8 +28,8 @@ use Rattle.scenario.specs.Tables.{judged, mapped, row}
 abbrev pub header_line : List ℕ → List (List ℕ) → Result State Code
 header_line keyword (version ∷ []) =
     if bytes_eq keyword (codes "fleet") then
-      (if bytes_eq version (codes "1") then Ok (AmongSite false nothing_declared) else
-      if bytes_eq version (codes "2") then Ok (AmongSite true nothing_declared) else Err S3)
+    (if bytes_eq version (codes "1") then Ok (AmongSite false nothing_declared) else
+    if bytes_eq version (codes "2") then Ok (AmongSite true nothing_declared) else Err S3)
     else Err S3
 header_line keyword [] = Err S3
 header_line keyword (version ∷ other ∷ more) = Err S3

@@ -5,6 +5,7 @@ mod fleet;
 mod flows;
 mod ground;
 mod keyword;
+pub mod laws;
 mod lines;
 mod mission;
 pub mod missions;
@@ -15,4 +16,6 @@ mod reader;
 pub mod samples;
 pub mod scenario;
 pub mod stop;
+#[cfg(test)]
+mod tests;
 mod words;

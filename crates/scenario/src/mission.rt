@@ -18,6 +18,7 @@ use std::mem;
 
 // How often a block may stand, and how deep blocks may be.
 const MAX_TIMES: u32 = 64;
+
 const MAX_DEPTH: usize = 4;
 
 // An open block: how often it stands, and the legs before it.

@@ -97,7 +97,13 @@ fn push_crossing(
     ensures { OnOk result (text.new.items ≡ text.old.items ++ crossing_text names.now site.now crossing) }
 {
     let thing = Thing::Crossing(crossing);
-    push_set(text, b"crossing", names, thing, site.crossing_cells(crossing))?;
+    push_set(
+        text,
+        b"crossing",
+        names,
+        thing,
+        site.crossing_cells(crossing),
+    )?;
     for flow in 0..site.crossing_flows(crossing) {
         let cells = cells_of_flow(alloc, site, crossing, first, flow)?;
         push_set(text, b"flow", names, thing, &cells)?;
@@ -112,7 +118,13 @@ fn push_areas(text: &mut Vec<u8>, names: &Names, site: &Site) -> Result<(), NoMe
     ensures { OnOk result (text.new.items ≡ text.old.items ++ each (area_text names.now site.now) (length site.now.areas)) }
 {
     for area in 0..site.area_count() {
-        push_set(text, b"area", names, Thing::Area(area), site.area_cells(area))?;
+        push_set(
+            text,
+            b"area",
+            names,
+            Thing::Area(area),
+            site.area_cells(area),
+        )?;
     }
     Ok(())
 }

@@ -128,11 +128,7 @@ fn declare(ground: &mut Ground, word: SiteWord, words: &mut Words) -> Result<(),
 }
 
 // A line among robots and missions.
-fn fleet_line(
-    mut fleet: Fleet,
-    keyword: Option<Keyword>,
-    words: &mut Words,
-) -> Result<Reader, Stop>
+fn fleet_line(mut fleet: Fleet, keyword: Option<Keyword>, words: &mut Words) -> Result<Reader, Stop>
     requires { IsSound fleet }
     ensures { Gives state_of result (fleet_line fleet keyword words.old) }
 {
@@ -177,12 +173,7 @@ fn leg_line(
 }
 
 // A line that adds to a mission.
-fn add_leg(
-    names: &Names,
-    mission: &mut Open,
-    word: LegWord,
-    words: &mut Words,
-) -> Result<(), Stop>
+fn add_leg(names: &Names, mission: &mut Open, word: LegWord, words: &mut Words) -> Result<(), Stop>
     ensures { Gives (λ _. mission.new) result (added_by names.now mission.old word words.old) }
 {
     match word {

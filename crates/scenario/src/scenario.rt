@@ -12,10 +12,9 @@ use crate::missions::Missions;
 use fleet_base::numbers::CellNo;
 use fleet_base::path::Path;
 use fleet_names::names::Names;
+pub use site_map::goal::Goal;
 use site_map::site::Site;
 use std::marker::Model;
-
-pub use site_map::goal::Goal;
 
 /// A scenario. Contracts see its site, its names, the start of each robot and each robot's legs.
 #[derive(Drop)]

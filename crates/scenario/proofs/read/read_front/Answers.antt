@@ -45,7 +45,7 @@ returns-then-is_ended c =
     let raw : List ℕ = slice_range text c.in-Some.line.start c.in-Some.line.stop in
     let rest : List (List ℕ) = lines_of (drop c.in-Some.line.next text) in
     let passed : read_from front_step front_done (n + 1 + 1) (t, n + 1) rest ≡ whole =
-        line_passes front_step front_done (n + 1) (s, n) (t, n + 1) (lines_of (drop c.loop-line.at text)) raw rest whole c.in-Some.ensures.lines (front_takes s t n raw c.loop-line.invariant.going c.in-Ok.ensures) c.loop-line.invariant.rest in
+    line_passes front_step front_done (n + 1) (s, n) (t, n + 1) (lines_of (drop c.loop-line.at text)) raw rest whole c.in-Some.ensures.lines (front_takes s t n raw c.loop-line.invariant.going c.in-Ok.ensures) c.loop-line.invariant.rest in
     let found : whole ≡ Ok (c.in_ok-scenario.scenario, n + 1) = sym passed ∙ front_found t (n + 1) (n + 1 + 1) (n + 1) rest c.in_ok-scenario.scenario (sym c.is_ended.ensures ∙ c.if-is_ended.true) c.in_ok-scenario.ensures in
     let before = c.loop-line.invariant.used 1 in
     let step_of = line_used text c.loop-line.at c.in-Some.line 0 (omega arith) c.in-Some.ensures.is in

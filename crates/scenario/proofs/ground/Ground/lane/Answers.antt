@@ -25,8 +25,8 @@ taken : (d : Declared) (words : List (List ℕ)) (a b : CellNo) (cost : ℕ) →
     → lane_line d words ≡ Ok (record d { site = linked (linked d.site a b cost) b a cost })
 taken d words a b cost from to costs fine is =
     let e : lane_line d words ≡ Ok (record d { site = linked (linked d.site (cell_at d.names (word words 0)) (cell_at d.names (word words 1)) (digits_value 10 (word words 2))) (cell_at d.names (word words 1)) (cell_at d.names (word words 0)) (digits_value 10 (word words 2)) }) =
-        both_fine (ends_rows d.names words) (lane_rows d.site (cell_at d.names (word words 0)) (cell_at d.names (word words 1))) _ fine
-        (subst (λ x. IsFine (lane_rows d.site x (cell_at d.names (word words 1)))) from (subst (λ y. IsFine (lane_rows d.site a y)) to is)) in
+    both_fine (ends_rows d.names words) (lane_rows d.site (cell_at d.names (word words 0)) (cell_at d.names (word words 1))) _ fine
+    (subst (λ x. IsFine (lane_rows d.site x (cell_at d.names (word words 1)))) from (subst (λ y. IsFine (lane_rows d.site a y)) to is)) in
     e ∙ ap (λ (x : CellNo). Ok (record d { site = linked (linked d.site x (cell_at d.names (word words 1)) (digits_value 10 (word words 2))) (cell_at d.names (word words 1)) x (digits_value 10 (word words 2)) })) (sym from)
     ∙ ap (λ (y : CellNo). Ok (record d { site = linked (linked d.site a y (digits_value 10 (word words 2))) y a (digits_value 10 (word words 2)) })) (sym to)
     ∙ ap (λ (n : ℕ). Ok (record d { site = linked (linked d.site a b n) b a n })) (sym costs)

@@ -15,7 +15,7 @@ returns-in_err-add_link c =
     let a : CellNo = cell_at c.self.inside.names (word c.args.words.now 0) in
     let b : CellNo = cell_at c.self.inside.names (word c.args.words.now 1) in
     let moved : IsStop (link_rows c.self.inside.builder a b) c.in_err-add_link.field-0.0 =
-        subst (λ x. IsStop (link_rows c.self.inside.builder x b) c.in_err-add_link.field-0.0) c.in_ok-from.ensures.from
-        (subst (λ y. IsStop (link_rows c.self.inside.builder c.in_ok-from.from y) c.in_err-add_link.field-0.0) c.in_ok-from.ensures.to c.in_err-add_link.ensures.bad) in
+    subst (λ x. IsStop (link_rows c.self.inside.builder x b) c.in_err-add_link.field-0.0) c.in_ok-from.ensures.from
+    (subst (λ y. IsStop (link_rows c.self.inside.builder c.in_ok-from.from y) c.in_err-add_link.field-0.0) c.in_ok-from.ensures.to c.in_err-add_link.ensures.bad) in
     handed_on _ _ _ c.in_err-add_link.field-0.0 c.from_residual-in_err-add_link.ensures.1 (subst (λ (d : Declared). Fails c.in_err-add_link.field-0.0 (link_line d c.args.words.now)) c.self.view_is
     (later_stops (ends_rows c.self.inside.names c.args.words.now) (link_rows c.self.inside.builder a b) _ c.in_err-add_link.field-0.0 c.in_ok-from.ensures.fine moved))
