@@ -8,7 +8,7 @@ use Rattle.scenario.specs.declared.reader.Reader.TheVariants as readers
 -- where the reader is
 abbrev pub state_of : Reader → State
 state_of readers.Header = AtHeader
-state_of (readers.Site ground flows) = AmongSite flows ground
+state_of (readers.Site declared flows) = AmongSite flows declared
 state_of (readers.Fleet fleet) = AmongRobots fleet
 state_of (readers.Mission fleet mission) = InMission fleet mission
 state_of (readers.Ended fleet) = Ended fleet

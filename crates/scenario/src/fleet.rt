@@ -52,15 +52,15 @@ impl Model for Fleet {
 
 impl Fleet {
     // The site is closed, and no robot is declared yet.
-    pub(crate) fn of(ground: Ground) -> Fleet
-        ensures { result ≡ closed ground }
+    pub(crate) fn of(declared: Ground) -> Fleet
+        ensures { result ≡ closed declared }
     {
         let Ground {
             alloc,
             builder,
             names,
             link_count: _,
-        } = ground;
+        } = declared;
         Fleet {
             alloc,
             site: builder.finish(),

@@ -60,7 +60,7 @@ impl Reader {
     {
         match self {
             Reader::Header => header_line(alloc, word, words),
-            Reader::Site(ground, flows) => site_line(ground, flows, keyword_of(word), words),
+            Reader::Site(declared, flows) => site_line(declared, flows, keyword_of(word), words),
             Reader::Fleet(fleet) => fleet_line(fleet, keyword_of(word), words),
             Reader::Mission(fleet, mission) => leg_line(fleet, mission, keyword_of(word), words),
             Reader::Ended(_) => Err(Stop::Bad(Code::S21)),
@@ -94,36 +94,36 @@ fn header_line(alloc: Global, word: &[u8], words: &mut Words) -> Result<Reader, 
 
 // A line among the site lines.
 fn site_line(
-    mut ground: Ground,
+    mut declared: Ground,
     flows: bool,
     keyword: Option<Keyword>,
     words: &mut Words,
 ) -> Result<Reader, Stop>
-    requires { IsBare ground }
-    ensures { Gives state_of result (site_line flows ground keyword words.old) }
+    requires { IsBare declared }
+    ensures { Gives state_of result (site_line flows declared keyword words.old) }
 {
     let Some(Keyword::Site(word)) = keyword else {
-        return fleet_line(Fleet::of(ground), keyword, words);
+        return fleet_line(Fleet::of(declared), keyword, words);
     };
     if word == SiteWord::Flow && !flows {
         return Err(Stop::Bad(Code::S4));
     }
-    declare(&mut ground, word, words)?;
-    Ok(Reader::Site(ground, flows))
+    declare(&mut declared, word, words)?;
+    Ok(Reader::Site(declared, flows))
 }
 
 // A site line.
-fn declare(ground: &mut Ground, word: SiteWord, words: &mut Words) -> Result<(), Stop>
-    requires { NamesAll ground.old.names ground.old.site 0 }
-    ensures { Gives (λ _. ground.new) result (declared_by ground.old word words.old) }
+fn declare(declared: &mut Ground, word: SiteWord, words: &mut Words) -> Result<(), Stop>
+    requires { NamesAll declared.old.names declared.old.site 0 }
+    ensures { Gives (λ _. declared.new) result (declared_by declared.old word words.old) }
 {
     match word {
-        SiteWord::Cell => ground.cell(words),
-        SiteWord::Crossing => ground.crossing(words),
-        SiteWord::Area => ground.area(words),
-        SiteWord::Flow => ground.flow(words),
-        SiteWord::Link => ground.link(words),
-        SiteWord::Lane => ground.lane(words),
+        SiteWord::Cell => declared.cell(words),
+        SiteWord::Crossing => declared.crossing(words),
+        SiteWord::Area => declared.area(words),
+        SiteWord::Flow => declared.flow(words),
+        SiteWord::Link => declared.link(words),
+        SiteWord::Lane => declared.lane(words),
     }
 }
 
