@@ -1,9 +1,9 @@
 -- The front of a text: where it ends, and what is read up to there.
-use Rattle.std.proofs.Common.{◌≡◌, ℕ, zero, suc, ◌+◌, ◌-◌, ◌<◌, ◌≤◌, Bool, true, false, not, cond, ltb, List, [], ◌∷◌, length, drop, Option, Some, None, Ok, Err, Result, refl, sym, ap, subst, ◌∙◌, arith, ⊎_elim}
+use Rattle.std.proofs.Common.{◌≡◌, ℕ, zero, suc, ◌+◌, ◌-◌, ◌<◌, ◌≤◌, Bool, true, false, not, cond, ltb, List, [], ◌∷◌, length, drop, Some, None, Ok, Err, Result, refl, sym, ap, subst, ◌∙◌, arith, ⊎_elim}
 use Rattle.std.specs.List.{position_or_len}
 use Rattle.std.proofs.lemmas.Bool.{cases_Bool, false≢true, lt-ltb, le-ltb, cases_lt}
 use Rattle.std.proofs.lemmas.List.{length-drop, drop-drop}
-use Rattle.std.proofs.Math.Numerals.{one-add, add-one}
+use Rattle.std.proofs.Math.Numerals.{add-one}
 use Rattle.site_lines.specs.declared.fault.At.{At}
 use Rattle.site_lines.specs.declared.fault.Code.{Code}
 use Rattle.site_lines.specs.declared.fault.Code.TheVariants.{S22}
@@ -13,7 +13,7 @@ use Rattle.site_lines.specs.Readings.{onward, read_from}
 use Rattle.scenario.specs.Reading.{bytes_of_lines, done, front_done, front_step, is_ended, step}
 use Rattle.scenario.specs.Scenarios.{ScenarioValue}
 use Rattle.scenario.specs.States.{Declared, State, AtHeader, AmongSite, AmongRobots, InMission, Ended, scenario_in}
-use Rattle.scenario.specs.Tables.{mapped, refused_at, Fails, FailsAt}
+use Rattle.scenario.specs.Tables.{mapped, Fails, FailsAt}
 use Rattle.scenario.specs.declared.stop.Stop.{Stop}
 use Rattle.scenario.specs.declared.stop.Stop.TheVariants as stops
 use Rattle.scenario.specs.declared.stop.ReadRefused.{ReadRefused}

@@ -1,12 +1,10 @@
 -- A lane's faults are those of its two links, once there is room for both.
-use Rattle.std.proofs.Common.{◌≡◌, ◌≢◌, ℕ, ◌+◌, ◌<◌, ◌≤◌, Bool, true, false, ◌||◌, eqb, leb, ltb, List, [], ◌∷◌, length, set, Some, None, refl, sym, ap, ◌∙◌, subst, arith}
+use Rattle.std.proofs.Common.{◌≡◌, ℕ, ◌+◌, ◌≤◌, Bool, true, false, ◌||◌, eqb, leb, ltb, List, [], ◌∷◌, refl, sym, ap, ◌∙◌, subst, arith}
 use Rattle.std.specs.List.{list_any}
-use Rattle.std.proofs.lemmas.Bool.{both_ways, lt-leb, le-ltb, eqb-true, eqb-false}
+use Rattle.std.proofs.lemmas.Bool.{lt-leb, le-ltb, eqb-true, eqb-false}
 use Rattle.fleet_base.specs.declared.numbers.CellNo.{CellNo}
 use Rattle.fleet_base.specs.declared.numbers.Link.{Link}
-use Rattle.site_lines.specs.declared.fault.Code.{Code}
 use Rattle.site_lines.specs.declared.fault.Code.TheVariants.{S13, S15}
-use Rattle.site_lines.specs.Readings.{least_code}
 use Rattle.site_map.specs.Built.{BuiltSite, link_total, links_at}
 use Rattle.site_map.specs.Cells.{with_one_more}
 use Rattle.scenario.specs.SiteLines.{has_link, lane_rows, link_rows, linked}

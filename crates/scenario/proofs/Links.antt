@@ -1,5 +1,5 @@
 -- How many links a site has after each change.
-use Rattle.std.proofs.Common.{◌≡◌, ◌≢◌, ℕ, zero, suc, ◌+◌, ◌<◌, List, [], ◌∷◌, ◌++◌, length, get_or, set, refl, sym, ap, ◌∙◌, arith}
+use Rattle.std.proofs.Common.{◌≡◌, ◌≢◌, ℕ, zero, suc, ◌+◌, ◌<◌, List, [], ◌∷◌, ◌++◌, length, get_or, set, refl, ap, arith}
 use Rattle.fleet_base.specs.declared.numbers.Link.{Link}
 use Rattle.site_map.specs.Built.{link_total}
 use Rattle.site_map.specs.Cells.{with_one_more}

@@ -1,13 +1,9 @@
 -- One line more of a text that is read.
-use Rattle.std.proofs.Common.{◌≡◌, ℕ, zero, suc, ◌+◌, ◌-◌, ◌<◌, ◌≤◌, Bool, true, false, cond, ltb, List, [], ◌∷◌, length, drop, Option, Some, None, Ok, Err, Result, refl, sym, ap, subst, ◌∙◌, arith}
+use Rattle.std.proofs.Common.{◌≡◌, ℕ, ◌+◌, List, [], ◌∷◌, Ok, Result, sym, ap, ◌∙◌}
 use Rattle.site_lines.specs.declared.fault.At.{At}
 use Rattle.site_lines.specs.declared.fault.Code.{Code}
-use Rattle.site_lines.specs.declared.fault.Code.TheVariants.{S22}
 use Rattle.site_lines.specs.Readings.{onward, read_from}
-use Rattle.scenario.specs.Reading.{done, front_done, front_step, is_ended, step, FrontValue, bytes_of_lines}
-use Rattle.scenario.specs.Scenarios.{ScenarioValue}
-use Rattle.scenario.specs.States.{Declared, State, AtHeader, AmongSite, AmongRobots, InMission, Ended, scenario_in}
-use Rattle.scenario.specs.Tables.{mapped, refused_at, Fails, FailsAt}
+use Rattle.scenario.specs.Tables.{refused_at, Fails, FailsAt}
 use Rattle.scenario.specs.declared.stop.Stop.{Stop}
 use Rattle.scenario.specs.declared.stop.Stop.TheVariants as stops
 

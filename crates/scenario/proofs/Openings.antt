@@ -1,15 +1,14 @@
 -- A run may open with the starts of a scenario.
-use Rattle.std.proofs.Common.{◌≡◌, ◌≢◌, ℕ, ◌<◌, ◌≤◌, zero, suc, true, false, ◌⊎◌, inl, inr, List, [], ◌∷◌, Option, Some, None, length, map, get_or, refl, sym, ap, subst, ◌∙◌, arith}
+use Rattle.std.proofs.Common.{◌≡◌, ◌≢◌, ℕ, ◌<◌, ◌≤◌, zero, suc, true, false, ◌⊎◌, inl, inr, List, [], ◌∷◌, Option, Some, None, length, map, get_or, refl, subst, arith}
 use Rattle.std.proofs.lemmas.List.{length-map}
 use Rattle.std.specs.Prelude.{slice_get, AllPairs}
-use Rattle.std.specs.List.{filter, list_any}
+use Rattle.std.specs.List.{filter}
 use Rattle.std.specs.Option.{is_some}
 use Rattle.std.proofs.lemmas.Bool.{both_ways, false≢true, cases_lt}
 use Rattle.std.proofs.lemmas.Option.{slice_get_within, get_or_from_slice_get}
 use Rattle.fleet_base.specs.declared.numbers.CellNo.{CellNo}
 use Rattle.fleet_base.specs.declared.numbers.ClaimNo.{ClaimNo}
 use Rattle.fleet_model.specs.Good.{IsOpening}
-use Rattle.fleet_model.specs.Lists.{In}
 use Rattle.fleet_model.specs.Replays.{start_at}
 use Rattle.fleet_model.specs.Sites.{Site, footprint_of, has_claim, in_conflict, is_kept_from}
 use Rattle.fleet_model.proofs.Blockers.{has_In}

@@ -1,35 +1,34 @@
 -- What lines that are accepted have made sure of.
-use Rattle.std.proofs.Common.{◌≡◌, ℕ, zero, suc, ◌+◌, ◌-◌, ◌*◌, ◌<◌, ◌≤◌, Bool, true, false, not, ◌&&◌, cond, eqb, leb, ltb, List, [], ◌∷◌, ◌++◌, length, map, set, take, drop, get_or, Option, Some, None, Ok, Err, Result, refl, sym, ap, subst, ◌∙◌, arith, length-append, length-take-le, add-zero}
+use Rattle.std.proofs.Common.{◌≡◌, ℕ, zero, suc, ◌+◌, ◌-◌, ◌*◌, ◌<◌, ◌≤◌, true, false, ◌&&◌, leb, List, [], ◌∷◌, ◌++◌, length, set, drop, get_or, Option, Some, None, Ok, refl, sym, ap, subst, ◌∙◌, arith, length-append, length-take-le, add-zero}
 use Rattle.std.specs.Prelude.{All, AllPairs}
 use Rattle.std.specs.List.{list_all, list_any}
 use Rattle.std.specs.Option.{is_some, unwrap_or}
 use Rattle.std.specs.Str.Parse.{digits_value}
-use Rattle.std.proofs.lemmas.Bool.{and_parts, not-false, lt-ltb, ltb-false, leb-false, leb-true, eqb-false, both_ways, false≢true, false_from_ne_true}
+use Rattle.std.proofs.lemmas.Bool.{and_parts, not-false, ltb-false, leb-false, leb-true, eqb-false, both_ways, false_from_ne_true}
 use Rattle.std.proofs.lemmas.List.{length-set, length-map}
 use Rattle.std.proofs.lemmas.List.Elements.{All-nil, All-push, All-set, All-append, All-take, All-get_or}
 use Rattle.std.proofs.lemmas.List.Folds.{list_any_at}
 use Rattle.std.proofs.lemmas.List.Quantifiers.{all_pairs_push}
 use Rattle.fleet_base.specs.declared.numbers.CellNo.{CellNo}
-use Rattle.fleet_names.specs.declared.thing.Thing.TheVariants.{Cell, Crossing, Area, Robot}
+use Rattle.fleet_names.specs.declared.thing.Thing.TheVariants.{Crossing, Area, Robot}
 use Rattle.fleet_names.specs.Names.{Named, count_of, is_name, thing_of, AreDeclared}
-use Rattle.fleet_names.specs.Things.{is_area, is_cell, is_crossing, is_robot}
+use Rattle.fleet_names.specs.Things.{is_area, is_crossing, is_robot}
 use Rattle.fleet_names.proofs.Adding.{AreDeclared-push}
-use Rattle.site_lines.specs.declared.fault.Code.{Code}
 use Rattle.site_lines.specs.Readings.{Row}
-use Rattle.site_map.specs.Built.{BuiltSite, completed_site, crossing_at, with_area, with_crossing, with_flow, with_link}
+use Rattle.site_map.specs.Built.{BuiltSite, completed_site, crossing_at, with_area, with_crossing, with_flow}
 use Rattle.site_map.specs.Cells.{in_order}
 use Rattle.site_map.specs.Crossings.{completed, with_line}
 use Rattle.site_map.specs.Goals.{IsGoal}
 use Rattle.site_map.specs.declared.goal.Goal.{Goal}
 use Rattle.site_map.specs.declared.goal.Goal.TheVariants as goals
 use Rattle.scenario.specs.FleetLines.{end_line, end_rows, mission_line, mission_rows, robot_at, robot_line, robot_named, robot_rows}
-use Rattle.scenario.specs.Kept.{IsBare, IsBlock, IsOpen, IsReached, IsSound}
+use Rattle.scenario.specs.Kept.{IsBare, IsBlock, IsOpen, IsSound}
 use Rattle.scenario.specs.MissionLines.{again_line, again_rows, done_line, done_rows, goal_at, goal_named, innermost, opened, outer, repeated, repeat_line, repeat_rows, visit_line, visit_rows}
-use Rattle.scenario.specs.Reading.{closed, keyword_line, step}
+use Rattle.scenario.specs.Reading.{closed}
 use Rattle.scenario.specs.Scenarios.{do_conflict, IsMission, NamesAll}
-use Rattle.scenario.specs.SiteLines.{area_line, area_rows, cell_at, cell_line, cell_named, cell_rows, cells_named, crossing_named, crossing_line, crossing_rows, ends_rows, flow_line, flow_rows, is_out_of, is_taken, lane_line, lane_rows, link_line, link_rows, linked, new_set_rows, old_set_rows, with_cell_names, with_cells, with_name, has_taken}
-use Rattle.scenario.specs.States.{Block, Declared, Mission, State, AtHeader, AmongSite, AmongRobots, InMission, Ended}
-use Rattle.scenario.specs.Tables.{few, judged, many, row, word, IsFine}
+use Rattle.scenario.specs.SiteLines.{area_line, area_rows, cell_at, cell_line, cell_named, cell_rows, cells_named, crossing_named, crossing_line, crossing_rows, ends_rows, flow_line, flow_rows, lane_line, lane_rows, link_line, link_rows, linked, new_set_rows, old_set_rows, with_cell_names, with_cells, with_name}
+use Rattle.scenario.specs.States.{Block, Declared, Mission}
+use Rattle.scenario.specs.Tables.{judged, word, IsFine}
 use Rattle.scenario.proofs.Fines.{fines, judged_fine}
 use Rattle.scenario.proofs.Naming.{cell_known, declared_cells, free_none, goal_known, named_cells, named_more, robot_known, word_is_name}
 use Rattle.scenario.proofs.Repeats.{length-repeated}

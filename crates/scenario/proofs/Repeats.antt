@@ -1,5 +1,5 @@
 -- Legs that are repeated.
-use Rattle.std.proofs.Common.{◌≡◌, ℕ, zero, suc, ◌+◌, ◌-◌, ◌*◌, ◌<◌, List, [], ◌∷◌, ◌++◌, length, refl, sym, ap, subst, ◌∙◌, arith, append_assoc, length-append, suc-mul, zero-mul}
+use Rattle.std.proofs.Common.{◌≡◌, ℕ, zero, suc, ◌+◌, ◌-◌, ◌*◌, ◌<◌, List, ◌++◌, length, sym, ap, ◌∙◌, arith, append_assoc, length-append, suc-mul, zero-mul}
 use Rattle.std.proofs.lemmas.List.{append-nil}
 use Rattle.site_map.specs.declared.goal.Goal.{Goal}
 use Rattle.scenario.specs.MissionLines.{repeated}

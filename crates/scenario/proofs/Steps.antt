@@ -1,7 +1,7 @@
 -- What each accepted line has made sure of, for the next.
-use Rattle.std.proofs.Common.{◌≡◌, ℕ, Bool, true, false, not, ◌||◌, cond, List, [], ◌∷◌, length, codes, Option, Some, None, Ok, Err, Result, refl, sym, ap, subst, ◌∙◌, arith}
+use Rattle.std.proofs.Common.{◌≡◌, ℕ, Bool, true, false, not, ◌||◌, cond, List, [], ◌∷◌, codes, Option, Some, None, Ok, Err, Result, refl, subst}
 use Rattle.std.specs.Str.{bytes_eq}
-use Rattle.fleet_names.specs.Names.{Named, AreDeclared}
+use Rattle.fleet_names.specs.Names.{AreDeclared}
 use Rattle.site_lines.specs.declared.fault.Code.{Code}
 use Rattle.site_lines.specs.declared.fault.Code.TheVariants.{S1, S2, S3, S4}
 use Rattle.site_lines.specs.Lines.{is_too_long, without_return}

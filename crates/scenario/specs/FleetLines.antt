@@ -1,5 +1,5 @@
 -- What the lines of robots and of the end declare, and when they are bad. The words are those behind the keyword.
-use Rattle.std.specs.Prelude.{ℕ, ◌==◌, Bool, not, nat_le, List, [], ◌∷◌, ◌++◌, length, slice_index_or, Option, Some, None, Result}
+use Rattle.std.specs.Prelude.{ℕ, ◌==◌, not, nat_le, List, [], ◌∷◌, ◌++◌, length, slice_index_or, Option, Some, None, Result}
 use Rattle.std.specs.List.{list_all, list_any}
 use Rattle.std.specs.Option.{is_some, unwrap_or}
 use Rattle.fleet_base.specs.declared.limits.TheConstants.{MAX_ROBOTS}

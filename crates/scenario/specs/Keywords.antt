@@ -1,5 +1,5 @@
 -- The keywords of a scenario's lines.
-use Rattle.std.specs.Prelude.{ℕ, List, [], ◌∷◌, codes, Option, Some, None}
+use Rattle.std.specs.Prelude.{ℕ, List, [], ◌∷◌, codes, Option}
 use Rattle.std.specs.Str.{bytes_eq}
 use Rattle.fleet_model.specs.Lists.{first_some, when}
 use Rattle.scenario.specs.declared.keyword.Keyword.{Keyword}

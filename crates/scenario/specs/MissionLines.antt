@@ -1,5 +1,5 @@
 -- What the lines of a mission add to it, and when they are bad. The words are those behind the keyword.
-use Rattle.std.specs.Prelude.{ℕ, suc, zero, ◌+◌, ◌-◌, ◌*◌, ◌==◌, Bool, true, false, not, nat_le, nat_lt, List, [], ◌∷◌, ◌++◌, length, take, slice_index_or, slice_set, Option, Some, None, Result}
+use Rattle.std.specs.Prelude.{ℕ, suc, zero, ◌+◌, ◌-◌, ◌*◌, ◌==◌, not, nat_le, nat_lt, List, [], ◌∷◌, ◌++◌, length, take, slice_index_or, slice_set, Option, Some, None, Result}
 use Rattle.std.specs.List.{list_all}
 use Rattle.std.specs.Option.{is_some, unwrap_or}
 use Rattle.std.specs.Str.Parse.{digits_value}

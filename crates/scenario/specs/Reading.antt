@@ -6,7 +6,7 @@ use Rattle.site_lines.specs.declared.fault.At.{At}
 use Rattle.site_lines.specs.declared.fault.Code.{Code}
 use Rattle.site_lines.specs.declared.fault.Code.TheVariants.{S1, S2, S3, S4, S21, S22}
 use Rattle.site_lines.specs.Lines.{is_feed, is_too_long, lines_of, without_return}
-use Rattle.site_lines.specs.Readings.{onward, read_from}
+use Rattle.site_lines.specs.Readings.{read_from}
 use Rattle.site_lines.specs.Words.{has_bad_byte, words_of}
 use Rattle.site_map.specs.Built.{completed_site}
 use Rattle.scenario.specs.declared.keyword.Keyword.{Keyword}

@@ -1,5 +1,5 @@
 -- Where a reader of a scenario is between two lines.
-use Rattle.std.specs.Prelude.{ℕ, Bool, List, [], Option, None, map}
+use Rattle.std.specs.Prelude.{ℕ, Bool, List, [], Option, map}
 use Rattle.std.specs.Option.{unwrap_or}
 use Rattle.fleet_base.specs.declared.numbers.CellNo.{CellNo}
 use Rattle.fleet_names.specs.Names.{Named}

@@ -1,5 +1,5 @@
 -- Tables of codes, and what a line gives that has none of them.
-use Rattle.std.specs.Prelude.{◌≡◌, ℕ, nat_lt, Bool, List, [], ◌∷◌, length, slice_index_or, Option, Some, None, Result, Ok, Err}
+use Rattle.std.specs.Prelude.{◌≡◌, ℕ, nat_lt, Bool, List, [], length, slice_index_or, Option, Some, None, Result, Ok, Err}
 use Rattle.site_lines.specs.declared.fault.At.{At}
 use Rattle.site_lines.specs.declared.fault.Code.{Code}
 use Rattle.site_lines.specs.declared.fault.Code.TheVariants.{S5, S6}

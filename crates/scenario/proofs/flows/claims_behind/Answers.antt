@@ -1,4 +1,4 @@
-use Rattle.std.proofs.Common.{◌≡◌, ◌+◌, arith}
+use Rattle.std.proofs.Common.{◌+◌, arith}
 use Rattle.site_map.specs.Built.{no_crossing}
 use Rattle.scenario.proofs.Prints.{claims_more, claims_upto}
 use Rattle.scenario.proofs.flows.claims_behind.Goals as goal

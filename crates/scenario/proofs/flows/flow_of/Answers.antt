@@ -1,11 +1,10 @@
-use Rattle.std.proofs.Common.{◌≡◌, ℕ, ◌+◌, ◌-◌, ◌<◌, ◌≤◌, ◌*◌, ◌^◌, List, Some, length, take, get_or, sym, ap, subst, ◌∙◌, arith}
+use Rattle.std.proofs.Common.{◌≡◌, ℕ, ◌+◌, ◌<◌, List, Some, length, take, get_or, ap, ◌∙◌, arith}
 use Rattle.std.specs.Prelude.{slice_get}
 use Rattle.std.proofs.lemmas.Option.{slice_get_within, get_or_from_slice_get}
 use Rattle.fleet_base.specs.declared.numbers.ClaimNo.{ClaimNo}
 use Rattle.fleet_model.specs.Sites.{footprint_of}
-use Rattle.site_map.specs.Built.{crossing_at, crossings_with}
+use Rattle.site_map.specs.Built.{crossings_with}
 use Rattle.site_map.specs.Claims.{site_of}
-use Rattle.site_map.specs.Crossings.{crossing_claims, flow_of}
 use Rattle.scenario.proofs.Prints.{claim_at}
 use Rattle.scenario.proofs.flows.flow_of.Goals as goal
 

@@ -1,4 +1,4 @@
-use Rattle.std.proofs.Common.{◌≡◌, ◌+◌, ap, ◌∙◌, arith}
+use Rattle.std.proofs.Common.{ap, ◌∙◌, arith}
 use Rattle.site_map.specs.Built.{link_total}
 use Rattle.scenario.proofs.Links.{link_total-link}
 use Rattle.scenario.proofs.ground.add_link.Goals as goal

@@ -1,4 +1,4 @@
-use Rattle.std.proofs.Common.{◌≡◌, ◌+◌, ◌-◌, ◌*◌, ◌++◌, length, length-append, sym, ap, ◌∙◌, arith}
+use Rattle.std.proofs.Common.{◌+◌, ◌-◌, ◌++◌, length, length-append, sym, ap, ◌∙◌, arith}
 use Rattle.scenario.specs.MissionLines.{repeated}
 use Rattle.scenario.proofs.Repeats.{repeated_less, repeated_all, length-repeated}
 use Rattle.scenario.proofs.mission.append_times.Goals as goal

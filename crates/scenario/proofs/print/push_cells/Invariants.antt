@@ -1,4 +1,4 @@
-use Rattle.std.proofs.Common.{◌≡◌, ◌++◌, ◌+◌, take, drop}
+use Rattle.std.proofs.Common.{◌≡◌, ◌++◌}
 use Rattle.scenario.specs.Canonical.{each, cell_text}
 use Rattle.scenario.proofs.print.push_cells.Given as goal
 

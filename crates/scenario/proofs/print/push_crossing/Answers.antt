@@ -1,4 +1,4 @@
-use Rattle.std.proofs.Common.{◌≡◌, ℕ, ◌<◌, ◌≤◌, ◌==◌, List, ◌++◌, ◌∷◌, sym, ap, subst, ◌∙◌, arith}
+use Rattle.std.proofs.Common.{ℕ, ◌<◌, ◌==◌, List, ◌++◌, ◌∷◌, sym, ap, subst, ◌∙◌, arith}
 use Rattle.std.specs.Prelude.{All, codes}
 use Rattle.std.proofs.lemmas.List.Elements.{All-filter, All-weaker}
 use Rattle.fleet_base.specs.declared.numbers.CellNo.{CellNo}
@@ -7,7 +7,7 @@ use Rattle.fleet_names.specs.Names.{count_of}
 use Rattle.fleet_names.specs.Things.{is_cell}
 use Rattle.site_map.specs.Built.{crossing_at}
 use Rattle.site_map.specs.Crossings.{flow_of}
-use Rattle.scenario.specs.Canonical.{cell_names, cells_of_flow, flow_text, line, name}
+use Rattle.scenario.specs.Canonical.{cell_names, flow_text, line, name}
 use Rattle.scenario.proofs.Prints.{then_more}
 use Rattle.scenario.proofs.print.push_crossing.Goals as goal
 

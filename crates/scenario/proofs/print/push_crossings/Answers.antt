@@ -1,4 +1,3 @@
-use Rattle.std.proofs.Common.{◌∙◌}
 use Rattle.scenario.specs.Canonical.{crossing_text}
 use Rattle.scenario.proofs.Prints.{then_more}
 use Rattle.scenario.proofs.print.push_crossings.Goals as goal

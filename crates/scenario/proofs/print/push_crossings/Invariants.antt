@@ -1,4 +1,4 @@
-use Rattle.std.proofs.Common.{◌≡◌, ◌++◌, ◌+◌, take, drop}
+use Rattle.std.proofs.Common.{◌≡◌, ◌++◌, ◌+◌, take}
 use Rattle.scenario.specs.Canonical.{each, crossing_text}
 use Rattle.site_map.specs.Crossings.{crossing_claims}
 use Rattle.scenario.proofs.print.push_crossings.Given as goal

@@ -1,15 +1,13 @@
-use Rattle.std.proofs.Common.{◌≡◌, ℕ, suc, ◌+◌, ◌-◌, ◌<◌, ◌≤◌, true, false, List, Ok, Err, Result, sym, ap, subst, ◌∙◌, arith, length}
-use Rattle.std.proofs.Math.Numerals.{add-one}
+use Rattle.std.proofs.Common.{◌≡◌, ℕ, suc, ◌+◌, List, Ok, Result, sym, ap, subst, ◌∙◌, arith}
 use Rattle.std.specs.Prelude.{slice_range, drop}
 use Rattle.site_lines.specs.declared.fault.At.{At}
-use Rattle.site_lines.specs.declared.fault.Code.TheVariants.{S22}
 use Rattle.site_lines.specs.Lines.{lines_of}
 use Rattle.site_lines.specs.Readings.{read_from}
 use Rattle.scenario.specs.Readers.{state_of}
-use Rattle.scenario.specs.Reading.{bytes_of_lines, done, front_done, front_of, front_step, is_ended, step, FrontValue}
+use Rattle.scenario.specs.Reading.{bytes_of_lines, front_done, front_of, front_step, FrontValue}
 use Rattle.scenario.specs.Scenarios.{ScenarioValue}
 use Rattle.scenario.specs.States.{AtHeader, State}
-use Rattle.scenario.specs.Tables.{mapped, FailsAt, GivesAt}
+use Rattle.scenario.specs.Tables.{mapped, FailsAt}
 use Rattle.scenario.proofs.Fronts.{front_found, front_open, front_stops, front_takes, line_used, whole_fails}
 use Rattle.scenario.proofs.Loops.{line_fails, line_passes, lines_end}
 use Rattle.scenario.proofs.Steps.{step_reached}

@@ -1,4 +1,4 @@
-use Rattle.std.proofs.Common.{◌≡◌, ◌+◌, ◌-◌, ◌≤◌, Ok, sym, subst, arith}
+use Rattle.std.proofs.Common.{sym, subst, arith}
 use Rattle.std.specs.Prelude.{slice_range, drop}
 use Rattle.site_lines.specs.Lines.{lines_of}
 use Rattle.scenario.specs.Readers.{state_of}

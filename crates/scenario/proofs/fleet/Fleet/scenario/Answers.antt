@@ -1,4 +1,4 @@
-use Rattle.std.proofs.Common.{◌≡◌, ◌≤◌, List, length, sym, subst}
+use Rattle.std.proofs.Common.{◌≤◌, List, length, sym, subst}
 use Rattle.fleet_base.specs.declared.numbers.CellNo.{CellNo}
 use Rattle.site_map.specs.declared.goal.Goal.{Goal}
 use Rattle.scenario.specs.Kept.{IsSound}

@@ -1,4 +1,4 @@
-use Rattle.std.proofs.Common.{sym, ap, subst, ◌∙◌}
+use Rattle.std.proofs.Common.{subst}
 use Rattle.fleet_base.specs.declared.numbers.CellNo.{CellNo}
 use Rattle.scenario.specs.States.{Declared}
 use Rattle.scenario.specs.SiteLines.{cell_at, ends_rows, link_line, link_rows}
