@@ -1,5 +1,6 @@
 -- The forms of the program: lists of words.
-use Rattle.std.specs.Prelude.{ℕ, if◌then◌else◌, List, [], ◌∷◌, codes, Some, None}
+use denote.Ref.{Bor}
+use Rattle.std.specs.Prelude.{ℕ, if◌then◌else◌, List, [], ◌∷◌, map, codes, Some, None}
 use Rattle.std.specs.declared.option.Option.{Option}
 use Rattle.std.specs.Str.{bytes_eq}
 use Rattle.fleet_cli.specs.declared.form.Form as declared
@@ -21,6 +22,10 @@ one_word word = if bytes_eq word (codes "check") then Some Check else None
 abbrev pub form_of : List (List ℕ) → Option Form
 form_of (word ∷ []) = one_word word
 form_of words = None
+
+-- the form that the words of a call are, if they are one
+abbrev pub form_asked : List (Bor (List ℕ)) → Option Form
+form_asked words = form_of (map (λ word. word.now) words)
 
 -- what is written where the words are no form
 abbrev pub usage_text : List ℕ

@@ -1,7 +1,7 @@
 // The forms of the program: lists of words.
-ghost use Rattle.std.specs.Prelude.{◌≡◌, ◌^◌, ◌-◌, ◌<◌, map, IfSome};
+ghost use Rattle.std.specs.Prelude.{◌≡◌, ◌^◌, ◌-◌, ◌<◌, IfSome};
 ghost use Rattle.std.specs.Option.{option_map};
-ghost use Rattle.fleet_cli.specs.Forms.{form_of, form_view, limit_of, one_word};
+ghost use Rattle.fleet_cli.specs.Forms.{form_asked, form_view, limit_of, one_word};
 
 // What the words ask for.
 #[derive(Clone, Copy, Debug, PartialEq, Eq)]
@@ -12,7 +12,7 @@ pub(crate) enum Form {
 
 // The form that the words are, if they are one.
 pub(crate) fn form_from(words: &[&str]) -> Option<Form>
-    ensures { option_map form_view result ≡ form_of (map (λ word. word.now) words.now) }
+    ensures { option_map form_view result ≡ form_asked words.now }
 {
     match words {
         [word] => from_one(word),

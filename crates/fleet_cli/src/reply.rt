@@ -1,7 +1,7 @@
 // The text that is due, with its status.
-ghost use Rattle.std.specs.Prelude.{◌≡◌, ◌≢◌, ◌^◌, ◌-◌, ◌<◌, None, Some, Err, length, map, IfOk, IsErrOf};
+ghost use Rattle.std.specs.Prelude.{◌≡◌, ◌≢◌, ◌^◌, ◌-◌, ◌<◌, None, Some, Err, length, IfOk, IsErrOf};
 ghost use Rattle.fleet_io.specs.Causes.{Rose};
-ghost use Rattle.fleet_cli.specs.Forms.{form_of, form_view, usage_text};
+ghost use Rattle.fleet_cli.specs.Forms.{form_asked, form_view, usage_text};
 ghost use Rattle.fleet_cli.specs.Outputs.{output_of, reply_for, reply_view};
 ghost use Rattle.fleet_cli.specs.Runs.{IsReady};
 ghost use Rattle.fleet_cli.specs.declared.reply.NoReply.TheVariants.{NoMemory as OutOfMemory};
@@ -39,9 +39,14 @@ impl From<NoMemory> for NoReply {
 }
 
 // The reply to the words and to what the source has left.
-pub(crate) fn ready<S: Source>(alloc: Global, words: &[&str], source: &mut S) -> Result<Reply, NoReply>
-    ensures due { IfOk result (λ reply. IsReady (form_of (map (λ word. word.now) words.now)) (S.left source.old) (S.left source.new) (reply_view reply)) }
-    ensures unread { IsErrOf result NoReply.ReadFault → form_of (map (λ word. word.now) words.now) ≢ None }
+pub(crate) fn ready<S: Source>(
+    alloc: Global,
+    words: &[&str],
+    source: &mut S,
+) -> Result<Reply, NoReply>
+    ensures due { IfOk result (λ reply.
+        IsReady (form_asked words.now) (S.left source.old) (S.left source.new) (reply_view reply)) }
+    ensures unread { IsErrOf result NoReply.ReadFault → form_asked words.now ≢ None }
     ensures fault { IsErrOf result NoReply.ReadFault → Rose (S.faults source.old) (S.faults source.new) }
 {
     match form_from(words) {
@@ -52,7 +57,8 @@ pub(crate) fn ready<S: Source>(alloc: Global, words: &[&str], source: &mut S) ->
 
 // The reply to a form.
 fn reply_to<S: Source>(alloc: Global, form: Form, source: &mut S) -> Result<Reply, NoReply>
-    ensures due { IfOk result (λ reply. IsReady (Some (form_view form)) (S.left source.old) (S.left source.new) (reply_view reply)) }
+    ensures due { IfOk result (λ reply.
+        IsReady (Some (form_view form)) (S.left source.old) (S.left source.new) (reply_view reply)) }
     ensures fault { IsErrOf result NoReply.ReadFault → Rose (S.faults source.old) (S.faults source.new) }
 {
     let Some(limit) = form.limit() else {

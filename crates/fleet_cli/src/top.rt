@@ -1,9 +1,9 @@
 // The top call.
-ghost use Rattle.std.specs.Prelude.{◌≡◌, ◌≢◌, ◌≤◌, ◌⊎◌, ℕ, List, Some, None, map};
+ghost use Rattle.std.specs.Prelude.{◌≡◌, ◌≢◌, ◌≤◌, ◌⊎◌, ℕ, List, Some, None};
 ghost use Rattle.std.specs.Io.KnownBytes.{Keeps};
 ghost use Rattle.fleet_io.specs.Causes.{Rose};
 ghost use Rattle.fleet_io.specs.Bytes.{Stays};
-ghost use Rattle.fleet_cli.specs.Forms.{Form, form_of};
+ghost use Rattle.fleet_cli.specs.Forms.{Form, form_asked};
 ghost use Rattle.fleet_cli.specs.Outputs.{due_of};
 ghost use Rattle.fleet_cli.specs.Runs.{Tells, IsWhole, Runs};
 ghost use Rattle.fleet_cli.specs.Refusals.{TellsFault};
@@ -27,25 +27,29 @@ pub fn fleet<S: Source, K: Sink>(alloc: Global, words: &[&str], source: &mut S, 
     // Where the source tells its bytes, what goes out is what is due for them and for the words,
     // whole or, with status 6, a prefix of it.
     ensures told { (input : List ℕ) → S.left source.old ≡ Some input → result ≢ 1 → result ≢ 5 →
-        Tells (due_of (form_of (map (λ word. word.now) words.now)) input) result (K.written sink.old) (K.written sink.new) }
+        Tells (due_of (form_asked words.now) input) result (K.written sink.old) (K.written sink.new) }
 
     // Where no read and no write failed, it goes out whole, or memory ran out.
-    ensures complete { (input : List ℕ) → S.left source.old ≡ Some input → ¬ Rose (S.faults source.old) (S.faults source.new) → ¬ Rose (K.faults sink.old) (K.faults sink.new) →
-        (result ≡ 1) ⊎ IsWhole (due_of (form_of (map (λ word. word.now) words.now)) input) result (K.written sink.old) (K.written sink.new) }
+    ensures complete { (input : List ℕ) → S.left source.old ≡ Some input →
+        ¬ Rose (S.faults source.old) (S.faults source.new) →
+        ¬ Rose (K.faults sink.old) (K.faults sink.new) →
+        (result ≡ 1) ⊎ IsWhole (due_of (form_asked words.now) input) result (K.written sink.old) (K.written sink.new) }
 
-    // The same where the source tells nothing, for some input; and the source was read to its end,
-    // or, where that is too much, to one byte behind the limit.
-    ensures answer { result ≢ 1 → result ≢ 5 → Runs (form_of (map (λ word. word.now) words.now)) result
+    // The same where the source tells nothing, for some input. What was taken from the source is
+    // all that it had left, or one byte more than the limit, or nothing where nothing is read.
+    ensures answer { result ≢ 1 → result ≢ 5 → Runs (form_asked words.now) result
         (S.left source.old) (S.left source.new) (K.written sink.old) (K.written sink.new) }
 
-    // The words are no form, and the source isn't read.
-    ensures usage { result ≡ 2 → (form_of (map (λ word. word.now) words.now) ≡ None) × Keeps (S.left source.old) (S.left source.new) }
+    // Status 2: the words are no form, and the source isn't read.
+    ensures usage { result ≡ 2 →
+        (form_asked words.now ≡ None) × Keeps (S.left source.old) (S.left source.new) }
 
     // Words that are no form are told so, unless memory ran out or the write failed.
-    ensures unknown { form_of (map (λ word. word.now) words.now) ≡ None → (result ≡ 1) ⊎ (result ≡ 2) ⊎ (result ≡ 6) }
+    ensures unknown { form_asked words.now ≡ None → (result ≡ 1) ⊎ (result ≡ 2) ⊎ (result ≡ 6) }
 
-    // The input has the fault that is told.
-    ensures refused { (form : Form) (input : List ℕ) → form_of (map (λ word. word.now) words.now) ≡ Some form → S.left source.old ≡ Some input → result ≡ 3 →
+    // Status 3: the input has the fault that is told.
+    ensures refused { (form : Form) (input : List ℕ) → form_asked words.now ≡ Some form →
+        S.left source.old ≡ Some input → result ≡ 3 →
         TellsFault form input (K.written sink.old) (K.written sink.new) }
 
     // Want of memory and a fault of the source write nothing.
@@ -57,13 +61,13 @@ pub fn fleet<S: Source, K: Sink>(alloc: Global, words: &[&str], source: &mut S, 
     run(alloc, words, source, sink)
 }
 
-// The same, by the one clause of which those of `fleet` are consequences.
+// The same, by the one clause of which the others of `fleet` are consequences.
 fn run<S: Source, K: Sink>(alloc: Global, words: &[&str], source: &mut S, sink: &mut K) -> u8
-    ensures answer { result ≢ 1 → result ≢ 5 → Runs (form_of (map (λ word. word.now) words.now)) result
+    ensures answer { result ≢ 1 → result ≢ 5 → Runs (form_asked words.now) result
         (S.left source.old) (S.left source.new) (K.written sink.old) (K.written sink.new) }
     ensures silent { (result ≡ 1) ⊎ (result ≡ 5) → Stays (K.written sink.old) (K.written sink.new) }
     ensures read_fault { result ≡ 5 → Rose (S.faults source.old) (S.faults source.new) }
-    ensures unread { result ≡ 5 → form_of (map (λ word. word.now) words.now) ≢ None }
+    ensures unread { result ≡ 5 → form_asked words.now ≢ None }
     ensures write_fault { result ≡ 6 → Rose (K.faults sink.old) (K.faults sink.new) }
 {
     match ready(alloc, words, source) {
