@@ -18,6 +18,38 @@ fn words_that_are_no_form_are_told_the_usage(rt: HostRuntime) -> Result<(), Fail
 }
 
 #[test]
+fn check_tells_the_canonical_text_or_the_fault(rt: HostRuntime) -> Result<(), Fail> {
+    let rows: [(&[u8], u8, &[u8]); 4] = [
+        (
+            b"fleet 1 # one\n\ncell  a\nrobot r1 a\r\nend",
+            0,
+            b"fleet 1\ncell a\nrobot r1 a\nend\n",
+        ),
+        (b"", 3, b"refused line 1 S22\n"),
+        (b"fleet 1\ncell a\nrobot r1 a\n", 3, b"refused line 4 S22\n"),
+        (b"fleet 1\ncell a\ncell a\n", 3, b"refused line 3 S10\n"),
+    ];
+    let words: &[&str] = &["check"];
+    for (input, status, text) in rows {
+        let mut source = SureSource::new(input.to_vec(rt.alloc())?, 3);
+        let mut sink = SureSink::new(rt.alloc(), 5);
+        assert_eq!(rt; fleet(rt.alloc(), words, &mut source, &mut sink), status);
+        assert!(rt; sink.written() == text);
+    }
+    Ok(())
+}
+
+#[test]
+fn more_bytes_than_the_limit_are_too_big(rt: HostRuntime) -> Result<(), Fail> {
+    let mut source = SureSource::new(vec![in rt.alloc(); 0u8; 4_194_305]?, 65_536);
+    let mut sink = SureSink::new(rt.alloc(), 5);
+    let words: &[&str] = &["check"];
+    assert_eq!(rt; fleet(rt.alloc(), words, &mut source, &mut sink), 3);
+    assert!(rt; sink.written() == b"refused too big\n".as_slice());
+    Ok(())
+}
+
+#[test]
 fn a_read_that_fails_writes_nothing(rt: HostRuntime) -> Result<(), Fail> {
     let bytes = b"fleet 1\n".to_vec(rt.alloc())?;
     let mut source = MemSource::new(bytes, 2, vec![in rt.alloc(); 2]?);
