@@ -1,0 +1,46 @@
+-- What a run says of its status, for any form.
+use Rattle.std.proofs.Common.{if◌then◌else◌, ◌≡◌, ℕ, Bool, true, false, List, [], Option, Some, None, Ok, Err, Result, refl, sym, ◌∙◌, ltb-true, arith}
+use Rattle.std.specs.Prelude.{nat_lt, length}
+use Rattle.fleet_cli.specs.declared.output.Ended.{Ended}
+use Rattle.fleet_cli.specs.declared.output.Ended.TheVariants.{Done}
+use Rattle.fleet_cli.specs.declared.fault.Fault.{Fault}
+use Rattle.fleet_cli.specs.declared.fault.Fault.TheVariants.{Line, TooBig}
+use Rattle.fleet_cli.specs.Forms.{Form, limit_of}
+use Rattle.fleet_cli.specs.Outputs.{Report, output_of, output_within, reply_for, due_of, status_of}
+use Rattle.fleet_cli.specs.Refusals.{HasFault, TellsFault}
+use Rattle.fleet_cli.specs.Runs.{Tells, Runs}
+use Rattle.fleet_cli.proofs.FormFaults.{in_output, unread}
+
+-- the input that a source tells is the one that a run is for
+pub told : (form : Option Form) (status : ℕ) (left left' written written' : Option (List ℕ)) (input : List ℕ) → left ≡ Some input → Runs form status left left' written written' → Tells (due_of form input) status written written'
+told form status left left' written written' input is run =
+    let same : input ≡ run.input = rw is at run.is in
+    rw same run.tells
+
+-- A form that gave its text doesn't end with the status of refusals: a case for each way to end.
+not_refused : (ended : Ended) → status_of ended ≡ 3 → ⊥
+not_refused Done e = cc
+
+fault_of : (d : Result Report Fault) → (reply_for d).status ≡ 3 → (fault : Fault) × (d ≡ Err fault)
+fault_of (Ok report) e = absurd (not_refused report.ended e)
+fault_of (Err fault) e = (fault, refl)
+
+big : (form : Form) (limit : ℕ) (input : List ℕ) → limit_of form ≡ Some limit → nat_lt limit (length input) ≡ true → HasFault form input TooBig
+big form limit input reads is = rw reads (ltb-true _ _ is)
+
+by_size : (form : Form) (limit : ℕ) (input : List ℕ) (over : Bool) → limit_of form ≡ Some limit → nat_lt limit (length input) ≡ over → (fault : Fault) → (if over then Err TooBig else output_of form input) ≡ Err fault → HasFault form input fault
+by_size form limit input true reads is TooBig e = big form limit input reads is
+by_size form limit input true reads is (Line at) e = absurd (cc)
+by_size form limit input false reads is fault e = in_output form input fault e
+
+by_limit : (form : Form) (limit : Option ℕ) (input : List ℕ) → limit_of form ≡ limit → (fault : Fault) → output_within limit form input ≡ Err fault → HasFault form input fault
+by_limit form None input reads fault e = unread form input fault reads (in_output form [] fault e)
+by_limit form (Some limit) input reads fault e = by_size form limit input (nat_lt limit (length input)) reads refl fault e
+
+pub refused : (words : Option Form) (status : ℕ) (left left' written written' : Option (List ℕ)) (form : Form) (input : List ℕ) → words ≡ Some form → left ≡ Some input → status ≡ 3
+    → Runs words status left left' written written' → TellsFault form input written written'
+refused words status left left' written written' form input asked is three run =
+    let tells : Tells (due_of (Some form) input) status written written' = rw asked at (told words status left left' written written' input is run) in
+    let whole = tells.whole (omega arith) in
+    let why = fault_of _ (sym whole.0 ∙ three) in
+    record { fault = why.0; is = by_limit form _ input refl why.0 why.1; told = rw why.1 at whole.1 }

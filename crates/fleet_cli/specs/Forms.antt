@@ -1,0 +1,36 @@
+-- The forms of the program: lists of words.
+use denote.Ref.{Bor}
+use Rattle.std.specs.Prelude.{ℕ, if◌then◌else◌, List, [], ◌∷◌, map, codes, Some, None}
+use Rattle.std.specs.declared.option.Option.{Option}
+use Rattle.std.specs.Str.{bytes_eq}
+use Rattle.fleet_cli.specs.declared.form.Form as declared
+use Rattle.fleet_cli.specs.declared.form.Form.TheVariants as variants
+
+-- what the words ask for
+pub data Form : Type 0 where
+  Check : Form
+
+-- a form without where its words lie in memory
+abbrev pub form_view : declared.Form → Form
+form_view variants.Check = Check
+
+-- the form that one word is
+abbrev pub one_word : List ℕ → Option Form
+one_word word = if bytes_eq word (codes "check") then Some Check else None
+
+-- the form that the words are, if they are one
+abbrev pub form_of : List (List ℕ) → Option Form
+form_of (word ∷ []) = one_word word
+form_of words = None
+
+-- the form that the words of a call are, if they are one
+abbrev pub form_asked : List (Bor (List ℕ)) → Option Form
+form_asked words = form_of (map (λ word. word.now) words)
+
+-- what is written where the words are no form
+abbrev pub usage_text : List ℕ
+usage_text = codes "usage: fleet check\n"
+
+-- the most bytes of input that a form takes; None where it reads nothing
+abbrev pub limit_of : Form → Option ℕ
+limit_of Check = Some 4194304

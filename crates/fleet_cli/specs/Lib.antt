@@ -1,0 +1,6 @@
+pub mod Check
+pub mod Forms
+pub mod Outputs
+pub mod Refusals
+pub mod Runs
+pub mod Stops

@@ -1,0 +1,28 @@
+-- The faults of an input.
+use Rattle.std.specs.Prelude.{ℕ, ◌<◌, List, length, IsSomeAnd}
+use Rattle.std.specs.declared.option.Option.{Option}
+use Rattle.site_lines.specs.declared.fault.At.{At}
+use Rattle.site_lines.specs.Lines.{lines_of}
+use Rattle.site_lines.specs.Readings.{IsFirstFault}
+use Rattle.scenario.specs.Reading.{step, done}
+use Rattle.scenario.specs.States.{AtHeader}
+use Rattle.fleet_io.specs.Bytes.{Puts}
+use Rattle.fleet_cli.specs.declared.fault.Fault.{Fault}
+use Rattle.fleet_cli.specs.declared.fault.Fault.TheVariants.{Line, TooBig}
+use Rattle.fleet_cli.specs.Forms.{Form, Check, limit_of}
+use Rattle.fleet_cli.specs.Outputs.{refused_text}
+
+-- the first bad line of an input, with the least of its codes
+abbrev pub IsBadAt : Form → List ℕ → At → Type 0
+IsBadAt Check input at = IsFirstFault step done 1 AtHeader (lines_of input) at
+
+-- an input has a fault for a form
+abbrev pub HasFault : Form → List ℕ → Fault → Type 0
+HasFault form input (Line at) = IsBadAt form input at
+HasFault form input TooBig = IsSomeAnd (limit_of form) (λ limit. limit < length input)
+
+-- a fault of the input is told by its line
+pub record TellsFault (form : Form) (input : List ℕ) (old new : Option (List ℕ)) : Type 0 where
+  pub fault : Fault
+  pub is : HasFault form input fault
+  pub told : Puts old new (refused_text fault)

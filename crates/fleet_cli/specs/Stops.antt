@@ -1,0 +1,23 @@
+-- What a function gives that may lack memory, beside what is due.
+use Rattle.std.specs.Prelude.{◌≡◌, Ok, Err, Result}
+use Rattle.scenario.specs.declared.stop.ReadRefused.{ReadRefused}
+use Rattle.scenario.specs.declared.stop.ReadRefused.TheVariants as read
+use Rattle.fleet_cli.specs.declared.fault.Fault.{Fault}
+use Rattle.fleet_cli.specs.declared.fault.Fault.TheVariants.{Line}
+use Rattle.fleet_cli.specs.declared.fault.Stop.{Stop}
+use Rattle.fleet_cli.specs.declared.fault.Stop.TheVariants.{NoMemory, Refused}
+
+-- a refusal of a reader
+abbrev pub stop_of : ReadRefused → Stop
+stop_of (read.Bad at) = Refused (Line at)
+stop_of read.NoMemory = NoMemory
+
+-- a fault that is answered is the one that is due
+abbrev pub Fails : {Y : Type 0} → Stop → Result Y Fault → Type 0
+Fails (Refused fault) due = due ≡ Err fault
+Fails NoMemory due = Unit {0}
+
+-- what is answered, seen by `view`, is what is due, unless memory ran out
+abbrev pub Gives : {X Y : Type 0} → (X → Y) → Result X Stop → Result Y Fault → Type 0
+Gives view (Ok x) due = due ≡ Ok (view x)
+Gives view (Err stop) due = Fails stop due

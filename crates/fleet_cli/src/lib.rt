@@ -1,0 +1,19 @@
+//! The work of the program `fleet`: its words, its input and its output, as one call over any
+//! source and sink.
+//!
+//! [`fleet`] finds the form that the words are, reads the source, does the work, makes the whole
+//! text in memory and writes it.
+#![tactic(auto)]
+
+mod check;
+mod fault;
+mod form;
+mod output;
+mod reply;
+#[cfg(test)]
+mod tests;
+mod top;
+
+pub use fault::Fault;
+pub use output::Ended;
+pub use top::fleet;

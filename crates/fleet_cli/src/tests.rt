@@ -1,0 +1,71 @@
+// The call over sources and sinks in memory.
+use crate::fleet;
+use fleet_io::{MemSink, MemSource, SureSink, SureSource};
+use std::test::Fail;
+
+const USAGE: &[u8] = b"usage: fleet check\n";
+
+#[test]
+fn words_that_are_no_form_are_told_the_usage(rt: HostRuntime) -> Result<(), Fail> {
+    let rows: [&[&str]; 5] = [&[], &["check", "now"], &["Check"], &["--help"], &[""]];
+    for words in rows {
+        let mut source = SureSource::new(b"fleet 1\n".to_vec(rt.alloc())?, 3);
+        let mut sink = SureSink::new(rt.alloc(), 5);
+        assert_eq!(rt; fleet(rt.alloc(), words, &mut source, &mut sink), 2);
+        assert!(rt; sink.written() == USAGE);
+    }
+    Ok(())
+}
+
+#[test]
+fn check_tells_the_canonical_text_or_the_fault(rt: HostRuntime) -> Result<(), Fail> {
+    let rows: [(&[u8], u8, &[u8]); 4] = [
+        (
+            b"fleet 1 # one\n\ncell  a\nrobot r1 a\r\nend",
+            0,
+            b"fleet 1\ncell a\nrobot r1 a\nend\n",
+        ),
+        (b"", 3, b"refused line 1 S22\n"),
+        (b"fleet 1\ncell a\nrobot r1 a\n", 3, b"refused line 4 S22\n"),
+        (b"fleet 1\ncell a\ncell a\n", 3, b"refused line 3 S10\n"),
+    ];
+    let words: &[&str] = &["check"];
+    for (input, status, text) in rows {
+        let mut source = SureSource::new(input.to_vec(rt.alloc())?, 3);
+        let mut sink = SureSink::new(rt.alloc(), 5);
+        assert_eq!(rt; fleet(rt.alloc(), words, &mut source, &mut sink), status);
+        assert!(rt; sink.written() == text);
+    }
+    Ok(())
+}
+
+#[test]
+fn more_bytes_than_the_limit_are_too_big(rt: HostRuntime) -> Result<(), Fail> {
+    let mut source = SureSource::new(vec![in rt.alloc(); 0u8; 4_194_305]?, 65_536);
+    let mut sink = SureSink::new(rt.alloc(), 5);
+    let words: &[&str] = &["check"];
+    assert_eq!(rt; fleet(rt.alloc(), words, &mut source, &mut sink), 3);
+    assert!(rt; sink.written() == b"refused too big\n".as_slice());
+    Ok(())
+}
+
+#[test]
+fn a_read_that_fails_writes_nothing(rt: HostRuntime) -> Result<(), Fail> {
+    let bytes = b"fleet 1\n".to_vec(rt.alloc())?;
+    let mut source = MemSource::new(bytes, 2, vec![in rt.alloc(); 2]?);
+    let mut sink = MemSink::new(rt.alloc(), 3, Vec::new(rt.alloc()));
+    let words: &[&str] = &["check"];
+    assert_eq!(rt; fleet(rt.alloc(), words, &mut source, &mut sink), 5);
+    assert!(rt; sink.written().is_empty());
+    Ok(())
+}
+
+#[test]
+fn a_write_that_fails_leaves_a_prefix(rt: HostRuntime) -> Result<(), Fail> {
+    let mut source = SureSource::new(Vec::new(rt.alloc()), 1);
+    let mut sink = MemSink::new(rt.alloc(), 4, vec![in rt.alloc(); 2]?);
+    let words: &[&str] = &["drill", "x"];
+    assert_eq!(rt; fleet(rt.alloc(), words, &mut source, &mut sink), 6);
+    assert!(rt; sink.written() == b"usag".as_slice());
+    Ok(())
+}
