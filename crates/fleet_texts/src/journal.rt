@@ -24,15 +24,23 @@ pub fn print_entry(alloc: Global, names: &Names, entry: &Entry) -> Result<Vec<u8
 }
 
 /// The text of a journal: its header, a line for each entry, and its end.
-#[tactic(auto, unfolding(crate::specs::Texts::journal_text))]
 pub fn print_journal(alloc: Global, names: &Names, entries: &[Entry]) -> Result<Vec<u8>, NoMemory>
     ensures { IfOk result (λ text. text.items ≡ journal_text names.now entries.now) }
 {
     let mut text = Vec::new(alloc);
-    push_text(&mut text, b"journal 1\n")?;
-    push_entries(&mut text, names, entries)?;
-    push_text(&mut text, b"end\n")?;
+    push_journal(&mut text, names, entries)?;
     Ok(text)
+}
+
+/// Appends the text of a journal.
+#[tactic(auto, unfolding(crate::specs::Texts::journal_text))]
+pub fn push_journal(text: &mut Vec<u8>, names: &Names, entries: &[Entry]) -> Result<(), NoMemory>
+    ensures ok { OnOk result (text.new.items ≡ text.old.items ++ journal_text names.now entries.now) }
+    ensures err { OnErr result (text.new.items ≡ []) }
+{
+    push_text(text, b"journal 1\n")?;
+    push_entries(text, names, entries)?;
+    push_text(text, b"end\n")
 }
 
 /// Appends the line of an entry, without its line feed.
