@@ -1,0 +1,4 @@
+pub mod Carried
+pub mod Script
+pub mod Sound
+pub mod Stops

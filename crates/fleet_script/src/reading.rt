@@ -1,0 +1,32 @@
+// Reading scripts.
+ghost use Rattle.std.specs.Prelude.{◌^◌, ◌-◌, ◌<◌, length};
+ghost use Rattle.fleet_script.specs.Script.{script_of};
+ghost use Rattle.fleet_script.specs.Stops.{Gives, script_value};
+
+use crate::refused::ScriptRefused;
+use fleet_commands::command::Command;
+use fleet_commands::read::read_commands;
+use scenario::read::read_front;
+use scenario::scenario::Scenario;
+use std::alloc::Global;
+
+// A scenario, and the commands behind it.
+#[derive(Drop)]
+pub(crate) struct Script {
+    pub(crate) scenario: Scenario,
+    pub(crate) commands: Vec<Command>,
+}
+
+// The script that a text is.
+pub(crate) fn read_script(alloc: Global, input: &[u8]) -> Result<Script, ScriptRefused>
+    requires { length input.now < 2 ^ 32 - 1 }
+    ensures { Gives script_value result (script_of input.now) }
+{
+    let front = read_front(alloc, input)?;
+    let names = front.scenario.names();
+    let commands = read_commands(alloc, input, front.used, front.lines + 1, names)?;
+    Ok(Script {
+        scenario: front.scenario,
+        commands,
+    })
+}
