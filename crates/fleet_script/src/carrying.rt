@@ -1,9 +1,8 @@
 // Carrying commands out.
-ghost use Rattle.std.specs.Prelude.{◌≡◌, OnOk, map};
-ghost use Rattle.coordinator.specs.Books.{state_of};
-ghost use Rattle.fleet_base.specs.declared.numbers.EventNo.{EventNo};
+ghost use Rattle.std.specs.Prelude.{◌≡◌, ◌≢◌, false, OnOk, map};
+ghost use Rattle.fleet_base.specs.declared.answers.ProposeRefused.TheVariants as propose_refused;
 ghost use Rattle.fleet_commands.specs.Commands.{call_of};
-ghost use Rattle.fleet_model.specs.Calls.{Cancel, LookAt, Propose, Report, Retry, Withdraw, turn};
+ghost use Rattle.fleet_model.specs.Calls.{Cancel, LookAt, Propose, Report, Retry, Withdraw};
 ghost use Rattle.fleet_names.specs.Names.{Named};
 ghost use Rattle.fleet_script.specs.Carried.{AreAnswered, IsAnswered};
 
@@ -30,6 +29,8 @@ pub(crate) fn carry_out(
     ensures { OnOk result (AreAnswered names.now (map (call_of fleet.old.site) commands.now) fleet.old fleet.new text.old.items text.new.items) }
 {
     for command in commands {
+        // What every coordinator keeps is said by its journal.
+        let _kept = fleet.journal();
         answer(text, names, fleet, command)?;
         push_text(text, b"\n")?;
     }
@@ -43,11 +44,8 @@ fn answer(
     fleet: &mut Coordinator,
     command: &Command,
 ) -> Result<(), NoMemory>
-    ensures is { OnOk result (IsAnswered names.now (call_of fleet.old.site command.now).0 (call_of fleet.old.site command.now).1 fleet.old fleet.new text.old.items text.new.items) }
-    ensures state { OnOk result (state_of fleet.new ≡ (turn (state_of fleet.old) (call_of fleet.old.site command.now).0 (call_of fleet.old.site command.now).1).after) }
+    ensures { OnOk result (IsAnswered names.now (call_of fleet.old.site command.now).0 (call_of fleet.old.site command.now).1 fleet.old fleet.new text.old.items text.new.items) }
 {
-    // What every coordinator keeps is said by its journal.
-    let _kept = fleet.journal();
     match &command.request {
         Request::Propose(route) => propose(text, names, fleet, command.robot, route),
         Request::Retry => retry(text, names, fleet, command.robot),
@@ -69,9 +67,16 @@ fn propose(
 {
     match fleet.propose(robot, route.cells()) {
         Ok(proposed) => push_proposed(text, names, fleet.site(), &proposed),
-        Err(ProposeRefused::NoMemory) => Err(NoMemory),
+        Err(refused) if lacks_memory(&refused) => Err(NoMemory),
         Err(refused) => push_propose_refused(text, names, &refused),
     }
+}
+
+// Whether a proposal is refused for want of memory.
+fn lacks_memory(refused: &ProposeRefused) -> bool
+    ensures { result ≡ false → refused.now ≢ propose_refused.NoMemory }
+{
+    matches!(refused, ProposeRefused::NoMemory)
 }
 
 fn retry(

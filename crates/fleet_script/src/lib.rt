@@ -5,7 +5,6 @@
 #![tactic(auto)]
 
 mod carrying;
-pub mod laws;
 mod reading;
 pub mod refused;
 pub mod script;

@@ -1,0 +1,44 @@
+-- A script prints a sound journal.
+use Rattle.std.proofs.Common.{◌≡◌, ℕ, List, [], ◌++◌, map, None, refl, sym, ap, subst, ◌∙◌}
+use Rattle.std.proofs.lemmas.List.{append-nil}
+use Rattle.fleet_base.specs.declared.entries.Entry.{Entry}
+use Rattle.fleet_base.specs.declared.limits.TheConstants.{MAX_CAP}
+use Rattle.fleet_model.specs.Calls.{entries_of}
+use Rattle.fleet_model.specs.Good.{IsGood}
+use Rattle.fleet_model.specs.Journals.{IsJournal, state_after}
+use Rattle.fleet_model.specs.Replays.{IsLegal, opening as replayed}
+use Rattle.fleet_model.specs.Sites.{IsSite}
+use Rattle.fleet_model.specs.States.{State}
+use Rattle.fleet_model.proofs.GoodStates.{opening_good}
+use Rattle.fleet_model.proofs.Soundness.{journal_sound}
+use Rattle.fleet_model.proofs.Turns.{calls_journal}
+use Rattle.fleet_texts.specs.StateTexts.{state_text}
+use Rattle.fleet_texts.specs.Texts.{journal_text}
+use Rattle.scenario.specs.Scenarios.{ScenarioValue, IsScenario}
+use Rattle.scenario.proofs.Openings.{may_open}
+use Rattle.site_map.specs.Claims.{site_of}
+use Rattle.fleet_script.specs.Script.{ScriptValue, calls_of, opening_of, printed}
+use Rattle.fleet_script.specs.Sound.{PrintsSoundly, answer_lines}
+
+-- the opening state of a scenario is good
+opens : (scenario : ScenarioValue) → IsScenario scenario → IsGood (opening_of scenario)
+opens scenario is = opening_good (site_of scenario.site) scenario.starts (map (λ a. None) scenario.starts) 1 MAX_CAP (may_open scenario is MAX_CAP)
+
+-- what a script prints is its answers, and a sound journal with its state
+pub prints_soundly : (script : ScriptValue) → IsScenario script.scenario → IsSite (site_of script.scenario.site) → PrintsSoundly script (printed script)
+prints_soundly script is is_site =
+    let opening = opening_of script.scenario in
+    let good = opens script.scenario is in
+    let calls = calls_of script in
+    let made = calls_journal opening calls is_site good in
+    let sound = journal_sound opening is_site good (entries_of opening calls) made.0 in
+    let here = sound.states (entries_of opening calls) [] (sym (append-nil (entries_of opening calls))) in
+    let reached = state_after opening (entries_of opening calls) in
+    record {
+      journal = entries_of opening calls;
+      accepted = refl;
+      printed = ap (λ s. answer_lines script ++ journal_text script.scenario.names (entries_of opening calls) ++ state_text script.scenario.names script.scenario.site s) (sym made.1);
+      legal = made.0;
+      sound = sound;
+      reported = subst (λ es. IsLegal reached.fleet.site (replayed reached.fleet.site reached.fleet.starts) es) (append-nil reached.fleet.finished) (here.safe [] tt);
+    }
