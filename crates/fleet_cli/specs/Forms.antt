@@ -9,14 +9,16 @@ use Rattle.fleet_cli.specs.declared.form.Form.TheVariants as variants
 -- what the words ask for
 pub data Form : Type 0 where
   Check : Form
+  Script : Form
 
 -- a form without where its words lie in memory
 abbrev pub form_view : declared.Form → Form
 form_view variants.Check = Check
+form_view variants.Script = Script
 
 -- the form that one word is
 abbrev pub one_word : List ℕ → Option Form
-one_word word = if bytes_eq word (codes "check") then Some Check else None
+one_word word = if bytes_eq word (codes "check") then Some Check else (if bytes_eq word (codes "script") then Some Script else None)
 
 -- the form that the words are, if they are one
 abbrev pub form_of : List (List ℕ) → Option Form
@@ -29,8 +31,9 @@ form_asked words = form_of (map (λ word. word.now) words)
 
 -- what is written where the words are no form
 abbrev pub usage_text : List ℕ
-usage_text = codes "usage: fleet check\n"
+usage_text = codes "usage: fleet check | script\n"
 
 -- the most bytes of input that a form takes; None where it reads nothing
 abbrev pub limit_of : Form → Option ℕ
 limit_of Check = Some 4194304
+limit_of Script = Some 4194304

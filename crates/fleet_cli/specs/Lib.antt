@@ -3,4 +3,5 @@ pub mod Forms
 pub mod Outputs
 pub mod Refusals
 pub mod Runs
+pub mod Script
 pub mod Stops

@@ -9,8 +9,9 @@ use Rattle.fleet_cli.specs.declared.output.Ended.{Ended}
 use Rattle.fleet_cli.specs.declared.output.Ended.TheVariants.{Done}
 use Rattle.fleet_cli.specs.declared.output.Report as declared
 use Rattle.fleet_cli.specs.declared.reply.Reply.{Reply}
-use Rattle.fleet_cli.specs.Forms.{Form, Check, limit_of, usage_text}
+use Rattle.fleet_cli.specs.Forms.{Form, Check, Script, limit_of, usage_text}
 use Rattle.fleet_cli.specs.Check.{check_text}
+use Rattle.fleet_cli.specs.Script.{IsSoundScript, printed_or}
 
 -- how a form ended, and its text
 pub record Report : Type 0 where
@@ -46,6 +47,16 @@ done (Err fault) = Err fault
 -- what a form makes of an input within its limit
 abbrev pub output_of : Form → List ℕ → Result Report Fault
 output_of Check input = done (check_text input)
+output_of Script input = done (printed_or input)
+
+-- what is known of an input for which a form gave its text
+abbrev pub HoldsFor : Form → List ℕ → Type 0
+HoldsFor Check input = Unit {0}
+HoldsFor Script input = IsSoundScript input
+
+abbrev pub Holds : Option Form → List ℕ → Type 0
+Holds None input = Unit {0}
+Holds (Some form) input = HoldsFor form input
 
 -- what is due for a report, and for a fault
 abbrev pub reply_for : Result Report Fault → Due

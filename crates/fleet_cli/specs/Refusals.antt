@@ -9,12 +9,14 @@ use Rattle.scenario.specs.States.{AtHeader}
 use Rattle.fleet_io.specs.Bytes.{Puts}
 use Rattle.fleet_cli.specs.declared.fault.Fault.{Fault}
 use Rattle.fleet_cli.specs.declared.fault.Fault.TheVariants.{Line, TooBig}
-use Rattle.fleet_cli.specs.Forms.{Form, Check, limit_of}
+use Rattle.fleet_cli.specs.Forms.{Form, Check, Script, limit_of}
 use Rattle.fleet_cli.specs.Outputs.{refused_text}
+use Rattle.fleet_cli.specs.Script.{IsBadScript}
 
 -- the first bad line of an input, with the least of its codes
 abbrev pub IsBadAt : Form → List ℕ → At → Type 0
 IsBadAt Check input at = IsFirstFault step done 1 AtHeader (lines_of input) at
+IsBadAt Script input at = IsBadScript input at
 
 -- an input has a fault for a form
 abbrev pub HasFault : Form → List ℕ → Fault → Type 0

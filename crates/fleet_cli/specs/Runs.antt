@@ -4,7 +4,7 @@ use Rattle.std.specs.declared.option.Option.{Option}
 use Rattle.std.specs.Io.KnownBytes.{Keeps, IsAtEnd}
 use Rattle.fleet_io.specs.Bytes.{Puts, PutsPrefix, TakesJust}
 use Rattle.fleet_cli.specs.Forms.{Form, limit_of}
-use Rattle.fleet_cli.specs.Outputs.{Due, due_of}
+use Rattle.fleet_cli.specs.Outputs.{Due, Holds, due_of}
 
 -- the input is all that the source had left, where it tells it
 abbrev pub IsInput : Option (List ℕ) → List ℕ → Type 0
@@ -25,12 +25,13 @@ abbrev pub Takes : Option Form → List ℕ → Option (List ℕ) → Option (Li
 Takes None input old new = Keeps old new
 Takes (Some form) input old new = TakesWithin (limit_of form) input old new
 
--- this is due for the words and for an input that is what the source had left, where it tells it
+-- this is due for the words and for an input that is what the source had left, where it tells it; and what holds of the input where a form gave its text
 pub record IsReady (form : Option Form) (left left' : Option (List ℕ)) (due : Due) : Type 0 where
   pub input : List ℕ
   pub is : IsInput left input
   pub takes : Takes form input left left'
   pub due_is : due ≡ due_of form input
+  pub holds : due.status ≡ 0 → Holds form input
 
 -- what is due went out whole, with its status
 abbrev pub IsWhole : Due → ℕ → Option (List ℕ) → Option (List ℕ) → Type 0
@@ -41,9 +42,10 @@ pub record Tells (due : Due) (status : ℕ) (old new : Option (List ℕ)) : Type
   pub whole : status ≢ 6 → IsWhole due status old new
   pub cut : status ≡ 6 → PutsPrefix old new due.text
 
--- a run that met no want of memory and no fault of the source: what was taken and what went out
+-- a run that met no want of memory and no fault of the source: what was taken, what went out, and what holds of the input with status 0
 pub record Runs (form : Option Form) (status : ℕ) (left left' written written' : Option (List ℕ)) : Type 0 where
   pub input : List ℕ
   pub is : IsInput left input
   pub takes : Takes form input left left'
   pub tells : Tells (due_of form input) status written written'
+  pub holds : status ≡ 0 → Holds form input

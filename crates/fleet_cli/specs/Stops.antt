@@ -2,15 +2,21 @@
 use Rattle.std.specs.Prelude.{◌≡◌, Ok, Err, Result}
 use Rattle.scenario.specs.declared.stop.ReadRefused.{ReadRefused}
 use Rattle.scenario.specs.declared.stop.ReadRefused.TheVariants as read
+use Rattle.fleet_script.specs.declared.refused.ScriptRefused.{ScriptRefused}
+use Rattle.fleet_script.specs.declared.refused.ScriptRefused.TheVariants as script
 use Rattle.fleet_cli.specs.declared.fault.Fault.{Fault}
 use Rattle.fleet_cli.specs.declared.fault.Fault.TheVariants.{Line}
 use Rattle.fleet_cli.specs.declared.fault.Stop.{Stop}
 use Rattle.fleet_cli.specs.declared.fault.Stop.TheVariants.{NoMemory, Refused}
 
--- a refusal of a reader
+-- a refusal of the reader of scenarios, and of a script
 abbrev pub stop_of : ReadRefused → Stop
 stop_of (read.Bad at) = Refused (Line at)
 stop_of read.NoMemory = NoMemory
+
+abbrev pub of_script : ScriptRefused → Stop
+of_script (script.Bad at) = Refused (Line at)
+of_script script.NoMemory = NoMemory
 
 -- a fault that is answered is the one that is due
 abbrev pub Fails : {Y : Type 0} → Stop → Result Y Fault → Type 0

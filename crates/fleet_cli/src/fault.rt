@@ -1,9 +1,10 @@
 // Why an input isn't accepted, and why a form gives no text.
 ghost use Rattle.std.specs.Prelude.{◌≡◌};
-ghost use Rattle.fleet_cli.specs.Stops.{stop_of};
+ghost use Rattle.fleet_cli.specs.Stops.{of_script, stop_of};
 ghost use Rattle.fleet_cli.specs.declared.fault.Stop.TheVariants.{NoMemory as OutOfMemory};
 
 use fleet_base::path::NoMemory;
+use fleet_script::refused::ScriptRefused;
 use scenario::stop::ReadRefused;
 use site_lines::fault::At;
 
@@ -40,6 +41,17 @@ impl From<ReadRefused> for Stop {
         match refused {
             ReadRefused::Bad(at) => Stop::Refused(Fault::Line(at)),
             ReadRefused::NoMemory => Stop::NoMemory,
+        }
+    }
+}
+
+impl From<ScriptRefused> for Stop {
+    ghost from_gives = { λ refused stop. stop ≡ of_script refused };
+
+    fn from(refused: ScriptRefused) -> Stop {
+        match refused {
+            ScriptRefused::Bad(at) => Stop::Refused(Fault::Line(at)),
+            ScriptRefused::NoMemory => Stop::NoMemory,
         }
     }
 }

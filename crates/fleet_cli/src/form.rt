@@ -8,6 +8,8 @@ ghost use Rattle.fleet_cli.specs.Forms.{form_asked, form_view, limit_of, one_wor
 pub(crate) enum Form {
     // The canonical text of a scenario.
     Check,
+    // A scenario with commands behind it, carried out.
+    Script,
 }
 
 // The form that the words are, if they are one.
@@ -25,6 +27,7 @@ fn from_one(word: &str) -> Option<Form>
 {
     match word {
         "check" => Some(Form::Check),
+        "script" => Some(Form::Script),
         _ => None,
     }
 }
@@ -36,7 +39,7 @@ impl Form {
         ensures small { IfSome result (λ limit. limit < 2 ^ 32 - 1) }
     {
         match self {
-            Form::Check => Some(4_194_304),
+            Form::Check | Form::Script => Some(4_194_304),
         }
     }
 }

@@ -6,6 +6,7 @@
 #![tactic(auto)]
 
 mod check;
+mod commanded;
 mod fault;
 mod form;
 mod output;

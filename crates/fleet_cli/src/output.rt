@@ -1,10 +1,11 @@
 // What a form makes of its input.
-ghost use Rattle.std.specs.Prelude.{◌≡◌, ◌^◌, ◌-◌, ◌<◌, length};
+ghost use Rattle.std.specs.Prelude.{◌≡◌, ◌^◌, ◌-◌, ◌<◌, OnOk, length};
 ghost use Rattle.fleet_cli.specs.Forms.{form_view};
-ghost use Rattle.fleet_cli.specs.Outputs.{output_of, report_view, status_of};
+ghost use Rattle.fleet_cli.specs.Outputs.{HoldsFor, output_of, report_view, status_of};
 ghost use Rattle.fleet_cli.specs.Stops.{Gives};
 
 use crate::check::check;
+use crate::commanded::carry_out;
 use crate::fault::Stop;
 use crate::form::Form;
 use std::alloc::Global;
@@ -37,10 +38,12 @@ pub(crate) struct Report {
 // What a form makes of an input within its limit.
 pub(crate) fn output(alloc: Global, form: Form, input: &[u8]) -> Result<Report, Stop>
     requires { length input.now < 2 ^ 32 - 1 }
-    ensures { Gives report_view result (output_of (form_view form) input.now) }
+    ensures is { Gives report_view result (output_of (form_view form) input.now) }
+    ensures holds { OnOk result (HoldsFor (form_view form) input.now) }
 {
     match form {
         Form::Check => Ok(done(check(alloc, input)?)),
+        Form::Script => Ok(done(carry_out(alloc, input)?)),
     }
 }
 

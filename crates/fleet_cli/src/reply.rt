@@ -2,7 +2,7 @@
 ghost use Rattle.std.specs.Prelude.{◌≡◌, ◌≢◌, ◌^◌, ◌-◌, ◌<◌, None, Some, Err, length, IfOk, IsErrOf};
 ghost use Rattle.fleet_io.specs.Causes.{Rose};
 ghost use Rattle.fleet_cli.specs.Forms.{form_asked, form_view, usage_text};
-ghost use Rattle.fleet_cli.specs.Outputs.{output_of, reply_for, reply_view};
+ghost use Rattle.fleet_cli.specs.Outputs.{HoldsFor, output_of, reply_for, reply_view};
 ghost use Rattle.fleet_cli.specs.Runs.{IsReady};
 ghost use Rattle.fleet_cli.specs.declared.reply.NoReply.TheVariants.{NoMemory as OutOfMemory};
 
@@ -75,7 +75,8 @@ fn reply_to<S: Source>(alloc: Global, form: Form, source: &mut S) -> Result<Repl
 // The reply to a form with an input within its limit.
 fn reply_of(alloc: Global, form: Form, input: &[u8]) -> Result<Reply, NoMemory>
     requires { length input.now < 2 ^ 32 - 1 }
-    ensures { IfOk result (λ reply. reply_view reply ≡ reply_for (output_of (form_view form) input.now)) }
+    ensures is { IfOk result (λ reply. reply_view reply ≡ reply_for (output_of (form_view form) input.now)) }
+    ensures holds { IfOk result (λ reply. reply.status ≡ 0 → HoldsFor (form_view form) input.now) }
 {
     match output(alloc, form, input) {
         Ok(Report { ended, text }) => Ok(Reply {
@@ -110,6 +111,6 @@ fn usage(alloc: Global) -> Result<Reply, NoMemory>
     ensures { IfOk result (λ reply. reply_view reply ≡ record { status = 2; text = usage_text }) }
 {
     let mut text = Vec::new(alloc);
-    push_bytes(&mut text, b"usage: fleet check\n")?;
+    push_bytes(&mut text, b"usage: fleet check | script\n")?;
     Ok(Reply { status: 2, text })
 }

@@ -3,7 +3,7 @@ use crate::fleet;
 use fleet_io::{MemSink, MemSource, SureSink, SureSource};
 use std::test::Fail;
 
-const USAGE: &[u8] = b"usage: fleet check\n";
+const USAGE: &[u8] = b"usage: fleet check | script\n";
 
 #[test]
 fn words_that_are_no_form_are_told_the_usage(rt: HostRuntime) -> Result<(), Fail> {

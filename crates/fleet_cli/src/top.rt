@@ -3,10 +3,11 @@ ghost use Rattle.std.specs.Prelude.{◌≡◌, ◌≢◌, ◌≤◌, ◌⊎◌, 
 ghost use Rattle.std.specs.Io.KnownBytes.{Keeps};
 ghost use Rattle.fleet_io.specs.Causes.{Rose};
 ghost use Rattle.fleet_io.specs.Bytes.{Stays};
-ghost use Rattle.fleet_cli.specs.Forms.{Form, form_asked};
+ghost use Rattle.fleet_cli.specs.Forms.{Form, Script, form_asked};
 ghost use Rattle.fleet_cli.specs.Outputs.{due_of};
 ghost use Rattle.fleet_cli.specs.Runs.{Tells, IsWhole, Runs};
 ghost use Rattle.fleet_cli.specs.Refusals.{TellsFault};
+ghost use Rattle.fleet_cli.specs.Script.{TellsScript};
 
 use crate::reply::{NoReply, ready};
 use fleet_io::{Sink, Source, write_text};
@@ -51,6 +52,13 @@ pub fn fleet<S: Source, K: Sink>(alloc: Global, words: &[&str], source: &mut S, 
     ensures refused { (form : Form) (input : List ℕ) → form_asked words.now ≡ Some form →
         S.left source.old ≡ Some input → result ≡ 3 →
         TellsFault form input (K.written sink.old) (K.written sink.new) }
+
+    // Status 0 of `script`: the script was carried out, and what went out is its answers and a
+    // journal with the state that it reaches. The journal is legal from the opening state and
+    // sound at each of its places, and what it reports is a legal replay.
+    ensures sound { (input : List ℕ) → form_asked words.now ≡ Some Script →
+        S.left source.old ≡ Some input → result ≡ 0 →
+        TellsScript input (K.written sink.old) (K.written sink.new) }
 
     // Want of memory and a fault of the source write nothing.
     ensures silent { (result ≡ 1) ⊎ (result ≡ 5) → Stays (K.written sink.old) (K.written sink.new) }
