@@ -17,8 +17,7 @@ journal_counts s (entry ∷ entries) is_site good h =
     let a = accepts_at s entry is_site good h.0 in
     let g = turn_good s entry is_site good h.0 in
     let rest = journal_counts (turn_at s entry).after entries g.1 g.0 h.1 in
-    let count : (turn_at s entry).after.count ≡ s.count + 1 = ap (λ (t : State). t.count) a.after_is ∙ changed_count s entry.robot.0 a.change in
-    (
+    let count : (turn_at s entry).after.count ≡ s.count + 1 = ap (λ (t : State). t.count) a.after_is ∙ changed_count s entry.robot.0 a.change in (
       omega (arith, rest.0, count),
       rest.1 ∙ ap (λ (t : State). t.cap) a.after_is ∙ changed_cap s entry.robot.0 a.change,
     )

@@ -28,10 +28,11 @@ use Rattle.fleet_script.specs.Carried.{AreAnswered, IsAnswered}
 
 -- what there is in the end, if these commands are still to be carried out: the text, the book and its state
 abbrev pub in_the_end : Named → List Command → Book → List ℕ → List ℕ × Book × State
-in_the_end names commands book text =
-    (text ++ lines_text (map (answer_text names book.site) (answers (state_of book) (map (call_of book.site) commands))),
-    with_entries book (entries_of (state_of book) (map (call_of book.site) commands)),
-    after_calls (state_of book) (map (call_of book.site) commands))
+in_the_end names commands book text = (
+  text ++ lines_text (map (answer_text names book.site) (answers (state_of book) (map (call_of book.site) commands))),
+  with_entries book (entries_of (state_of book) (map (call_of book.site) commands)),
+  after_calls (state_of book) (map (call_of book.site) commands),
+)
 
 module _ (names : Named) (command : Command) (rest : List Command) (old : Book) (before : List ℕ) where
   abbrev made : ℕ × Call

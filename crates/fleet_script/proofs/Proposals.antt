@@ -39,4 +39,3 @@ pub proposal_adds_nothing : (s : State) (r : ℕ) (cells : List CellNo) (refused
 proposal_adds_nothing s r cells refused is =
     let block = block_of (deferring s r cells) r cells in
     refused_adds_nothing (first_some (propose_refusals s r cells block)) s (propose_outcome s r cells block) (outcome_of s cells block) refused (outcome_is s r cells block) is
-

@@ -3,6 +3,9 @@ use Rattle.std.proofs.Common.{◌≡◌, ℕ, List, [], ◌++◌, map, None, ref
 use Rattle.std.proofs.lemmas.List.{append-nil}
 use Rattle.fleet_base.specs.declared.entries.Entry.{Entry}
 use Rattle.fleet_base.specs.declared.limits.TheConstants.{MAX_CAP}
+use Rattle.coordinator.specs.Books.{Book, state_of}
+use Rattle.fleet_commands.specs.Commands.{call_of}
+use Rattle.fleet_commands.specs.declared.command.Command.{Command}
 use Rattle.fleet_model.specs.Calls.{entries_of}
 use Rattle.fleet_model.specs.Good.{IsGood}
 use Rattle.fleet_model.specs.Journals.{IsJournal, state_after}
@@ -18,6 +21,7 @@ use Rattle.scenario.specs.Scenarios.{ScenarioValue, IsScenario}
 use Rattle.scenario.proofs.Openings.{may_open}
 use Rattle.site_map.specs.Claims.{site_of}
 use Rattle.fleet_script.specs.Script.{ScriptValue, calls_of, opening_of, printed}
+use Rattle.fleet_script.specs.Carried.{AreAnswered}
 use Rattle.fleet_script.specs.Sound.{PrintsSoundly, answer_lines}
 
 -- the opening state of a scenario is good
@@ -42,3 +46,21 @@ prints_soundly script is is_site =
       sound = sound;
       reported = subst (λ es. IsLegal reached.fleet.site (replayed reached.fleet.site reached.fleet.starts) es) (append-nil reached.fleet.finished) (here.safe [] tt);
     }
+
+-- the book of a coordinator that a scenario opens
+abbrev pub opened : ScenarioValue → Book
+opened scenario = record { site = scenario.site; starts = scenario.starts; cap = MAX_CAP; journal = [] }
+
+-- what is printed once the commands were carried out
+pub whole_is : (scenario : ScenarioValue) (commands : List Command) (new : Book) (told listed whole : List ℕ) → AreAnswered scenario.names (map (call_of scenario.site) commands) (opened scenario) new [] told
+    → listed ≡ told ++ journal_text scenario.names new.journal → whole ≡ listed ++ state_text scenario.names new.site (state_of new) → whole ≡ printed (record { scenario = scenario; commands = commands })
+whole_is scenario commands new told listed whole answered lists ends =
+    let script : ScriptValue = record { scenario = scenario; commands = commands } in
+    let names = scenario.names in
+    let lines = answer_lines script in
+    let entries = entries_of (opening_of scenario) (calls_of script) in
+    ends
+    ∙ ap (λ t. t ++ state_text names new.site (state_of new)) (lists ∙ ap (λ t. t ++ journal_text names new.journal) answered.told)
+    ∙ ap (λ j. lines ++ journal_text names j ++ state_text names new.site (state_of new)) (ap (λ (b : Book). b.journal) answered.book)
+    ∙ ap (λ site. lines ++ journal_text names entries ++ state_text names site (state_of new)) (ap (λ (b : Book). b.site) answered.book)
+    ∙ ap (λ s. lines ++ journal_text names entries ++ state_text names scenario.site s) answered.state

@@ -16,7 +16,7 @@ returns-clause-ok c =
     let book = c.args.fleet.now in
     let counted = entries_counted book kept.site kept.opening kept.legal kept.state in
     on_ok_weaker c.push_end.result (λ ends.
-      state_whole c.args.names.now book.site (state_of book) (length c.journal.result.now) c.next_number.result.0
-      c.args.text.now.items c.push_header.new.text.items c.push_robots.new.text.items c.push_end.new.text.items
-      (ap length kept.entries ∙ sym counted) c.next_number.ensures c.in_ok-push_header.ensures.ok c.in_ok-push_robots.ensures.ok ends)
+    state_whole c.args.names.now book.site (state_of book) (length c.journal.result.now) c.next_number.result.0
+    c.args.text.now.items c.push_header.new.text.items c.push_robots.new.text.items c.push_end.new.text.items
+    (ap length kept.entries ∙ sym counted) c.next_number.ensures c.in_ok-push_header.ensures.ok c.in_ok-push_robots.ensures.ok ends)
     c.push_end.ensures.ok

@@ -9,6 +9,6 @@ pub returns-in-Err : goal.returns-in-Err
 returns-in-Err c =
     let book = c.args.fleet.now in
     on_ok_weaker c.push_text.result (λ told.
-      refused_call c.args.names.now c.args.robot.0 LookAt book book c.args.text.now.items c.push_text.new.text.items (Looks (Err c.in-Err.field-0))
-      (ap (λ a. Looks a) (sym c.in-Err.ensures)) (look_adds_nothing (state_of book) c.args.robot.0) refl told)
+    refused_call c.args.names.now c.args.robot.0 LookAt book book c.args.text.now.items c.push_text.new.text.items (Looks (Err c.in-Err.field-0))
+    (ap (λ a. Looks a) (sym c.in-Err.ensures)) (look_adds_nothing (state_of book) c.args.robot.0) refl told)
     c.push_text.ensures.ok

@@ -17,7 +17,7 @@ returns-in-Err-2 c =
     let refused = c.in-Err.refused in
     let due : (propose (state_of book) r cells).answer ≡ Err refused = refusal_is NoMemory refused (propose (state_of book) r cells).answer (c.lacks_memory.ensures c.if-lacks_memory.false) c.in-Err.ensures.answer in
     on_ok_weaker c.push_propose_refused.result (λ told.
-      subst (λ (cs : List CellNo). IsAnswered c.args.names.now r (Propose cs) book c.propose.new.self c.args.text.now.items c.push_propose_refused.new.text.items) c.cells.ensures
-      (refused_call c.args.names.now r (Propose cells) book c.propose.new.self c.args.text.now.items c.push_propose_refused.new.text.items (Proposes (Err refused))
-      (ap (λ a. Proposes a) due) (proposal_adds_nothing (state_of book) r cells refused due) c.in-Err.ensures.book told))
+    subst (λ (cs : List CellNo). IsAnswered c.args.names.now r (Propose cs) book c.propose.new.self c.args.text.now.items c.push_propose_refused.new.text.items) c.cells.ensures
+    (refused_call c.args.names.now r (Propose cells) book c.propose.new.self c.args.text.now.items c.push_propose_refused.new.text.items (Proposes (Err refused))
+    (ap (λ a. Proposes a) due) (proposal_adds_nothing (state_of book) r cells refused due) c.in-Err.ensures.book told))
     c.push_propose_refused.ensures.ok
