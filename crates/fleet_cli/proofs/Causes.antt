@@ -1,12 +1,16 @@
 -- What a run says of its status, for any form.
-use Rattle.std.proofs.Common.{if◌then◌else◌, ◌≡◌, ℕ, Bool, true, false, List, [], Option, Some, None, Ok, Err, Result, refl, sym, ◌∙◌, ltb-true, arith}
+use Rattle.std.proofs.Common.{if◌then◌else◌, ◌≡◌, ℕ, Bool, true, false, List, [], Option, Some, None, Ok, Err, Result, refl, sym, ap, ◌∙◌, ltb-true, arith}
 use Rattle.std.specs.Prelude.{nat_lt, length}
 use Rattle.fleet_cli.specs.declared.output.Ended.{Ended}
 use Rattle.fleet_cli.specs.declared.output.Ended.TheVariants.{Done}
 use Rattle.fleet_cli.specs.declared.fault.Fault.{Fault}
 use Rattle.fleet_cli.specs.declared.fault.Fault.TheVariants.{Line, TooBig}
-use Rattle.fleet_cli.specs.Forms.{Form, limit_of}
-use Rattle.fleet_cli.specs.Outputs.{Report, output_of, output_within, reply_for, due_of, status_of}
+use Rattle.scenario.specs.Tables.{mapped}
+use Rattle.site_lines.specs.declared.fault.At.{At}
+use Rattle.fleet_script.specs.Script.{ScriptValue, printed, script_of}
+use Rattle.fleet_cli.specs.Forms.{Form, Script, limit_of}
+use Rattle.fleet_cli.specs.Script.{TellsScript, or_line}
+use Rattle.fleet_cli.specs.Outputs.{Due, Holds, Report, done, output_of, output_within, reply_for, due_of, status_of}
 use Rattle.fleet_cli.specs.Refusals.{HasFault, TellsFault}
 use Rattle.fleet_cli.specs.Runs.{Tells, Runs}
 use Rattle.fleet_cli.proofs.FormFaults.{in_output, unread}
@@ -44,3 +48,28 @@ refused words status left left' written written' form input asked is three run =
     let whole = tells.whole (omega arith) in
     let why = fault_of _ (sym whole.0 ∙ three) in
     record { fault = why.0; is = by_limit form _ input refl why.0 why.1; told = rw why.1 at whole.1 }
+
+-- what a script printed
+printed_of : (r : Result ScriptValue At) (status : ℕ) (text : List ℕ) → status ≡ (reply_for (done (or_line (mapped printed r)))).status → status ≡ 0 → text ≡ (reply_for (done (or_line (mapped printed r)))).text → (script : ScriptValue) × (r ≡ Ok script) × (text ≡ printed script)
+printed_of (Ok script) status text is zero told = (script, refl, told)
+printed_of (Err at) status text is zero told = absurd (omega (arith, is, zero))
+
+within : (input : List ℕ) (over : Bool) (status : ℕ) → status ≡ (reply_for (if over then Err TooBig else output_of Script input)).status → status ≡ 0
+    → (reply_for (if over then Err TooBig else output_of Script input)) ≡ reply_for (output_of Script input)
+within input true status is zero = absurd (omega (arith, is, zero))
+within input false status is zero = refl
+
+pub sound : (words : Option Form) (status : ℕ) (left left' written written' : Option (List ℕ)) (input : List ℕ) → words ≡ Some Script → left ≡ Some input → status ≡ 0 → Runs words status left left' written written' → TellsScript input written written'
+sound words status left left' written written' input asked is zero run =
+    let tells : Tells (due_of (Some Script) input) status written written' = rw asked at (told words status left left' written written' input is run) in
+    let whole = tells.whole (omega (arith, zero)) in
+    let same : input ≡ run.input = rw is at run.is in
+    let fits = within input (nat_lt 4194304 (length input)) status whole.0 zero in
+    let from = printed_of (script_of input) status (due_of (Some Script) input).text (whole.0 ∙ ap (λ (d : Due). d.status) fits) zero (ap (λ (d : Due). d.text) fits) in
+    let holds : Holds (Some Script) run.input = rw asked at (run.holds zero) in
+    record {
+      script = from.0;
+      is = from.1;
+      sound = holds from.0 (ap script_of (sym same) ∙ from.1);
+      told = rw from.2 at whole.1;
+    }
