@@ -1,3 +1,4 @@
 pub mod Causes
 pub mod FormFaults
 pub mod Inputs
+pub mod Scripts

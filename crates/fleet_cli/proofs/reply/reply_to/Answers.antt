@@ -10,7 +10,7 @@ returns-in_default-clause-due g c = unread_ready (form_view c.args.form) _ _ (se
 pub returns-in_ok-reply_of-in-Ok-clause-due : goal.returns-in_ok-reply_of-in-Ok-clause-due
 returns-in_ok-reply_of-in-Ok-clause-due g c =
     let few : length c.deref.result.now ≤ c.in-Some.limit = omega (arith, c.deref.ensures.len, c.in-Ok.ensures.small) in
-    read_ready (form_view c.args.form) c.in-Some.limit _ _ _ _ (search rules) few (rw c.deref.ensures.value c.in-Ok.ensures.bytes) c.in-Ok.ensures.end (rw c.deref.ensures.value at c.in_ok-reply_of-in-Ok.ensures.is) (rw c.deref.ensures.value at c.in_ok-reply_of-in-Ok.ensures.holds)
+    read_ready (form_view c.args.form) c.in-Some.limit _ _ _ c.deref.result.now (search rules) few (rw c.deref.ensures.value c.in-Ok.ensures.bytes) c.in-Ok.ensures.end c.in_ok-reply_of-in-Ok.ensures.is c.in_ok-reply_of-in-Ok.ensures.holds
 
 pub returns-in_ok-refusal-in-Err-TooBig-clause-due : goal.returns-in_ok-refusal-in-Err-TooBig-clause-due
 returns-in_ok-refusal-in-Err-TooBig-clause-due g c =
