@@ -40,6 +40,31 @@ fn check_tells_the_canonical_text_or_the_fault(rt: HostRuntime) -> Result<(), Fa
 }
 
 #[test]
+fn script_tells_answers_journal_and_state_or_the_fault(rt: HostRuntime) -> Result<(), Fail> {
+    let rows: [(&[u8], u8, &[u8]); 2] = [
+        (
+            b"fleet 1\ncell a b\nlane a b 1\nrobot r1 a\nend\npropose r1 a b\n",
+            0,
+            b"merged 1 3\njournal 1\nmerged r1 1 a b\nend\nstate 1\nentries 1\nnext 4\n\
+robot r1 at a end b\nholds a\nevent 1 acquire b\nevent 2 move a b\nevent 3 release a\nend\n",
+        ),
+        (
+            b"fleet 1\ncell a\nrobot r1 a\nend\nlook r1\nlook\n",
+            3,
+            b"refused line 6 C4\n",
+        ),
+    ];
+    let words: &[&str] = &["script"];
+    for (input, status, text) in rows {
+        let mut source = SureSource::new(input.to_vec(rt.alloc())?, 3);
+        let mut sink = SureSink::new(rt.alloc(), 5);
+        assert_eq!(rt; fleet(rt.alloc(), words, &mut source, &mut sink), status);
+        assert!(rt; sink.written() == text);
+    }
+    Ok(())
+}
+
+#[test]
 fn more_bytes_than_the_limit_are_too_big(rt: HostRuntime) -> Result<(), Fail> {
     let mut source = SureSource::new(vec![in rt.alloc(); 0u8; 4_194_305]?, 65_536);
     let mut sink = SureSink::new(rt.alloc(), 5);
