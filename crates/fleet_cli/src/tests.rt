@@ -4,6 +4,7 @@ use fleet_io::{MemSink, MemSource, SureSink, SureSource};
 use std::test::Fail;
 
 const USAGE: &[u8] = b"usage: fleet check | script\n";
+const ONE_STEP: &[u8] = b"fleet 1\ncell a b\nlane a b 1\nrobot r1 a\nend\npropose r1 a b\n";
 
 #[test]
 fn words_that_are_no_form_are_told_the_usage(rt: HostRuntime) -> Result<(), Fail> {
@@ -43,7 +44,7 @@ fn check_tells_the_canonical_text_or_the_fault(rt: HostRuntime) -> Result<(), Fa
 fn script_tells_answers_journal_and_state_or_the_fault(rt: HostRuntime) -> Result<(), Fail> {
     let rows: [(&[u8], u8, &[u8]); 2] = [
         (
-            b"fleet 1\ncell a b\nlane a b 1\nrobot r1 a\nend\npropose r1 a b\n",
+            ONE_STEP,
             0,
             b"merged 1 3\njournal 1\nmerged r1 1 a b\nend\nstate 1\nentries 1\nnext 4\n\
 robot r1 at a end b\nholds a\nevent 1 acquire b\nevent 2 move a b\nevent 3 release a\nend\n",
@@ -76,10 +77,10 @@ fn more_bytes_than_the_limit_are_too_big(rt: HostRuntime) -> Result<(), Fail> {
 
 #[test]
 fn a_read_that_fails_writes_nothing(rt: HostRuntime) -> Result<(), Fail> {
-    let bytes = b"fleet 1\n".to_vec(rt.alloc())?;
-    let mut source = MemSource::new(bytes, 2, vec![in rt.alloc(); 2]?);
+    let bytes = ONE_STEP.to_vec(rt.alloc())?;
+    let mut source = MemSource::new(bytes, 2, vec![in rt.alloc(); 1]?);
     let mut sink = MemSink::new(rt.alloc(), 3, Vec::new(rt.alloc()));
-    let words: &[&str] = &["check"];
+    let words: &[&str] = &["script"];
     assert_eq!(rt; fleet(rt.alloc(), words, &mut source, &mut sink), 5);
     assert!(rt; sink.written().is_empty());
     Ok(())
@@ -87,10 +88,13 @@ fn a_read_that_fails_writes_nothing(rt: HostRuntime) -> Result<(), Fail> {
 
 #[test]
 fn a_write_that_fails_leaves_a_prefix(rt: HostRuntime) -> Result<(), Fail> {
-    let mut source = SureSource::new(Vec::new(rt.alloc()), 1);
-    let mut sink = MemSink::new(rt.alloc(), 4, vec![in rt.alloc(); 2]?);
-    let words: &[&str] = &["drill", "x"];
-    assert_eq!(rt; fleet(rt.alloc(), words, &mut source, &mut sink), 6);
-    assert!(rt; sink.written() == b"usag".as_slice());
+    let rows: [(&str, &[u8]); 2] = [("script", b"merg"), ("drill", b"usag")];
+    for (word, begun) in rows {
+        let mut source = SureSource::new(ONE_STEP.to_vec(rt.alloc())?, 1);
+        let mut sink = MemSink::new(rt.alloc(), 4, vec![in rt.alloc(); 2]?);
+        let words: &[&str] = &[word];
+        assert_eq!(rt; fleet(rt.alloc(), words, &mut source, &mut sink), 6);
+        assert!(rt; sink.written() == begun);
+    }
     Ok(())
 }
