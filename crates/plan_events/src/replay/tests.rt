@@ -24,6 +24,15 @@ fn yard(alloc: Global) -> Result<Site, BuildRefused> {
     Ok(builder.finish())
 }
 
+// Cells 0 to 5, and no crossing.
+fn floor(alloc: Global) -> Result<Site, BuildRefused> {
+    let mut builder = SiteBuilder::new(alloc);
+    for _ in 0..6u32 {
+        builder.cell()?;
+    }
+    Ok(builder.finish())
+}
+
 // Whether the event is one of two robots, and of the site.
 fn is_known(site: &Site, event: &Event) -> bool
     ensures { IsTrue result → IsEventOf 2 site.now.cells (claim_total site.now) event.now }
@@ -105,6 +114,51 @@ fn legal_order_is_played(rt: HostRuntime) -> Result<(), Fail> {
     assert_eq!(rt; holding.held(RobotNo(0)), crossing.as_slice());
     let both = [ClaimNo(3), ClaimNo(4)];
     assert_eq!(rt; holding.held(RobotNo(1)), both.as_slice());
+    Ok(())
+}
+
+// Robot 0 drives over cell 1 to cell 2, and robot 1 waits for what it gives back.
+#[test]
+fn order_behind_a_release_is_played(rt: HostRuntime) -> Result<(), Fail> {
+    let site = floor(rt.alloc())?;
+    let events = [
+        acquire(1, 0, 1),
+        drive(2, 0, 0, 1),
+        release(3, 0, 0),
+        acquire(4, 0, 2),
+        drive(5, 0, 1, 2),
+        release(6, 0, 1),
+        acquire(7, 1, 1),
+    ];
+    let holding = play(&rt, rt.alloc(), &site, &events)?;
+    assert_eq!(rt; holding.at(RobotNo(0)), CellNo(2));
+    let both = [ClaimNo(1), ClaimNo(3)];
+    assert_eq!(rt; holding.held(RobotNo(1)), both.as_slice());
+    let early = [acquire(1, 0, 1), acquire(7, 1, 1)];
+    assert!(rt; play(&rt, rt.alloc(), &site, &early).is_err());
+    Ok(())
+}
+
+// Robot 0 drives through the crossing, and robot 1 takes its cell of it early, the crossing late.
+#[test]
+fn order_through_a_crossing_is_played(rt: HostRuntime) -> Result<(), Fail> {
+    let site = yard(rt.alloc())?;
+    let events = [
+        acquire(9, 1, 4),
+        acquire(1, 0, 1),
+        acquire(2, 0, 6),
+        drive(3, 0, 0, 1),
+        release(4, 0, 0),
+        acquire(5, 0, 2),
+        drive(6, 0, 1, 2),
+        release(7, 0, 1),
+        release(8, 0, 6),
+        acquire(10, 1, 6),
+    ];
+    let holding = play(&rt, rt.alloc(), &site, &events)?;
+    assert_eq!(rt; holding.at(RobotNo(0)), CellNo(2));
+    let held = [ClaimNo(3), ClaimNo(4), ClaimNo(6)];
+    assert_eq!(rt; holding.held(RobotNo(1)), held.as_slice());
     Ok(())
 }
 
