@@ -4,6 +4,7 @@ use fleet_io::{MemSink, MemSource, SureSink, SureSource};
 use std::test::Fail;
 
 const USAGE: &[u8] = b"usage: fleet check | script\n";
+
 const ONE_STEP: &[u8] = b"fleet 1\ncell a b\nlane a b 1\nrobot r1 a\nend\npropose r1 a b\n";
 
 #[test]
