@@ -1,12 +1,13 @@
 -- What each call of the builder leaves is kept as a site is.
 use Rattle.std.proofs.Common.{◌≡◌, ℕ, zero, suc, ◌+◌, ◌<◌, ◌≤◌, true, false, cond, not, ◌&&◌, ◌||◌, eqb, leb, ltb, inl, inr, List, [], ◌∷◌, ◌++◌, length, map, get_or, set, refl, sym, ap, subst, ◌∙◌, arith}
 use Rattle.std.proofs.Math.ListN.{get_or-append}
-use Rattle.std.specs.List.{list_any, All}
+use Rattle.std.specs.List.{list_any, All, AllPairs}
 use Rattle.std.specs.FinSet as set
 use Rattle.std.specs.Ordering.{nat_cmp}
-use Rattle.std.proofs.lemmas.Bool.{cases_Bool, cases_lt, ne_eqb, and_parts, not-true, or_from, or_right, lt-leb, le-leb, lt-ltb, le-ltb}
-use Rattle.std.proofs.lemmas.List.{map-append, length-map, length_push, length-set, get_or-map}
+use Rattle.std.proofs.lemmas.Bool.{cases_Bool, cases_eq, cases_lt, ne_eqb, and_parts, not-true, or_from, or_parts, or_right, lt-leb, le-leb, lt-ltb, le-ltb}
+use Rattle.std.proofs.lemmas.List.{map-append, length-map, length_push, length-set, get_or-map, get_or-set_other, get_or-set_same}
 use Rattle.std.proofs.lemmas.List.Folds.{list_any_none}
+use Rattle.std.proofs.lemmas.List.Quantifiers.{all_pairs_push}
 use Rattle.std.proofs.lemmas.List.Elements.{All-push, All-nil, All-set, All-weaker, All-get_or}
 use Rattle.fleet_base.specs.declared.numbers.CellNo.{CellNo}
 use Rattle.fleet_base.specs.declared.numbers.Link.{Link}
@@ -14,10 +15,10 @@ use Rattle.fleet_base.specs.declared.limits.TheConstants.{MAX_COST}
 use Rattle.site_map.specs.declared.places.Places.{Places}
 use Rattle.site_map.specs.declared.places.Places.TheVariants.{Free}
 use Rattle.site_map.specs.Cells.{has_cell, with_one_more}
-use Rattle.site_map.specs.Crossings.{BuiltCrossing, claim_count_of, completed, crossing_claims, in_flow, with_line}
+use Rattle.site_map.specs.Crossings.{AreApart, BuiltCrossing, claim_count_of, completed, crossing_claims, in_flow, IsFlow, with_line}
 use Rattle.site_map.specs.Built.{crossings_with, link_total, no_crossing}
-use Rattle.site_map.specs.Inside.{AreCells, AreLinks, AreNumbered, entered, IsKept, marked, places_from, places_list}
-use Rattle.site_map.proofs.CellLemmas.{list_any_agree_in}
+use Rattle.site_map.specs.Inside.{AreCells, AreLines, AreLinks, AreNumbered, entered, IsKept, marked, places_from, places_list}
+use Rattle.site_map.proofs.CellLemmas.{has_each, list_any_agree_in}
 use Rattle.site_map.proofs.ClaimLemmas.{crossing_claims_front, crossing_claims_more, crossing_claims-append, crossing_claims-set, length-crossings}
 use Rattle.site_map.proofs.CrossingLemmas.{claims_step}
 use Rattle.site_map.proofs.LinkLemmas.{LinksRise-with_one_more, All-with_one_more, length-with_one_more}
@@ -44,6 +45,36 @@ missing : (n : ℕ) (cells : List CellNo) (c : CellNo) → AreCells n cells → 
 missing n cells c are past =
     list_any_none (λ d. eqb d.0 c.0) cells
     (All-weaker (λ d. d.0 < n) (λ d. eqb d.0 c.0 ≡ false) (λ d h. ne_eqb d.0 c.0 (omega arith)) cells are.known)
+
+get_or_blank : (rows : List (List Link)) (c : ℕ) → get_or (rows ++ [] ∷ []) c [] ≡ get_or rows c []
+get_or_blank [] zero = refl
+get_or_blank [] (suc c) = refl
+get_or_blank (row ∷ rows) zero = refl
+get_or_blank (row ∷ rows) (suc c) = get_or_blank rows c
+
+-- a cell in no flow isn't in the k-th
+pub flow_lacks : (flows : List (List CellNo)) (c : CellNo) (k : ℕ) (d : List CellNo) → k < length flows → in_flow flows c ≡ false → has_cell (get_or flows k d) c ≡ false
+flow_lacks [] c k d within out = absurd (omega arith)
+flow_lacks (flow ∷ flows) c zero d within out = (or_parts (has_cell flow c) (in_flow flows c) out).0
+flow_lacks (flow ∷ flows) c (suc k) d within out = flow_lacks flows c k d (omega arith) (or_parts (has_cell flow c) (in_flow flows c) out).1
+
+AreLines-none : (cells : List CellNo) → AreLines (record { cells = cells; flows = [] })
+AreLines-none cells = record { flows = All-nil (IsFlow cells); apart = λ i j d below within. absurd (omega arith) }
+
+-- lines of free cells stay flows that are apart
+AreLines-line : (n : ℕ) (x : BuiltCrossing) (line : List CellNo) → AreLines x → AreCells n line → ((c : CellNo) → has_cell line c ≡ true → (has_cell x.cells c && not (in_flow x.flows c)) ≡ true) → AreLines (with_line x line)
+AreLines-line n x line lines are free = record {
+  flows = All-push (IsFlow x.cells) x.flows line lines.flows (record {
+    some = are.some;
+    rise = are.rise;
+    within = All-weaker (λ c. has_cell line c ≡ true) (λ c. has_cell x.cells c ≡ true) (λ c has. (and_parts (has_cell x.cells c) (not (in_flow x.flows c)) (free c has)).0) line (has_each line);
+  });
+  apart = all_pairs_push (λ flow other. All (λ c. has_cell flow c ≡ false) other) x.flows line lines.apart
+      (λ k d within.
+      All-weaker (λ c. has_cell line c ≡ true) (λ c. has_cell (get_or x.flows k d) c ≡ false)
+      (λ c has. flow_lacks x.flows c k d within (not-true (in_flow x.flows c) (and_parts (has_cell x.cells c) (not (in_flow x.flows c)) (free c has)).1))
+      line (has_each line));
+}
 
 link_total_push : (rows : List (List Link)) → link_total (rows ++ [] ∷ []) ≡ link_total rows
 link_total_push [] = refl
@@ -86,7 +117,9 @@ module _ (links : List (List Link)) (count : ℕ) (places : List Places) (crossi
         few_claims = kept.few_claims;
         counted = kept.counted ∙ sym (link_total_push links);
         linked = subst (λ m. All (AreLinks m) (links ++ [] ∷ [])) (sym long) (All-push (AreLinks (n + 1)) links [] (All-weaker (AreLinks n) (AreLinks (n + 1)) (AreLinks-grown n) links kept.linked) (AreLinks-none (n + 1)));
+        unlooped = λ c. subst (All (λ l. eqb l.to.0 c ≡ false)) (sym (get_or_blank links c)) (kept.unlooped c);
         crossed = subst (λ m. All (λ x. AreCells m x.cells) crossings) (sym long) (All-weaker (λ x. AreCells n x.cells) (λ x. AreCells (n + 1) x.cells) (λ x are. AreCells-grown n x.cells are) crossings kept.crossed);
+        lined = kept.lined;
         gathered = subst (λ m. All (AreCells m) areas) (sym long) (All-weaker (AreCells n) (AreCells (n + 1)) (AreCells-grown n) areas kept.gathered);
         placed = omega (arith, long, length_push places Free, kept.placed);
         found = λ c below. found_push kept c (omega (arith, long));
@@ -105,7 +138,9 @@ module _ (links : List (List Link)) (count : ℕ) (places : List Places) (crossi
         few_claims = kept.few_claims;
         counted = kept.counted;
         linked = kept.linked;
+        unlooped = kept.unlooped;
         crossed = kept.crossed;
+        lined = kept.lined;
         gathered = All-push (AreCells (length links)) areas cells kept.gathered are;
         placed = kept.placed;
         found = kept.found;
@@ -113,8 +148,8 @@ module _ (links : List (List Link)) (count : ℕ) (places : List Places) (crossi
       })
 
   -- a link is added
-  pub kept_link : (from : ℕ) (link : Link) (row : List Link) → IsKept links count places crossings areas firsts owners → count < 8192 → from < length links → link.to.0 < length links → 1 ≤ link.cost → link.cost ≤ MAX_COST → list_any (λ l. eqb l.to.0 link.to.0) (get_or links from []) ≡ false → row ≡ with_one_more (get_or links from []) link → IsKept (set links from row) (count + 1) places crossings areas firsts owners
-  kept_link from link row kept room from_known to_known costs cheap new more =
+  pub kept_link : (from : ℕ) (link : Link) (row : List Link) → IsKept links count places crossings areas firsts owners → count < 8192 → from < length links → link.to.0 < length links → eqb link.to.0 from ≡ false → 1 ≤ link.cost → link.cost ≤ MAX_COST → list_any (λ l. eqb l.to.0 link.to.0) (get_or links from []) ≡ false → row ≡ with_one_more (get_or links from []) link → IsKept (set links from row) (count + 1) places crossings areas firsts owners
+  kept_link from link row kept room from_known to_known other costs cheap new more =
       let old : List Link = get_or links from [] in
       let long : length (set links from (with_one_more old link)) ≡ length links = length-set links from (with_one_more old link) in
       let are : AreLinks (length links) old = All-get_or (AreLinks (length links)) links from [] from_known kept.linked in
@@ -132,7 +167,14 @@ module _ (links : List (List Link)) (count : ℕ) (places : List Places) (crossi
         few_claims = kept.few_claims;
         counted = omega (arith, kept.counted, link_total-set links from (with_one_more old link) from_known, length-with_one_more old link);
         linked = subst (λ m. All (AreLinks m) (set links from (with_one_more old link))) (sym long) (All-set (AreLinks (length links)) links from (with_one_more old link) still kept.linked);
+        unlooped = λ c. elim (cases_eq c from) [
+          | inl same ↦ subst (λ d. All (λ l. eqb l.to.0 d ≡ false) (get_or (set links from (with_one_more old link)) d [])) (sym same)
+              (subst (All (λ l. eqb l.to.0 from ≡ false)) (sym (get_or-set_same links from (with_one_more old link) [] from_known))
+              (All-with_one_more (λ l. eqb l.to.0 from ≡ false) old link (kept.unlooped from) other))
+          | inr apart ↦ subst (All (λ l. eqb l.to.0 c ≡ false)) (sym (get_or-set_other links from c (with_one_more old link) [] apart)) (kept.unlooped c)
+        ];
         crossed = subst (λ m. All (λ x. AreCells m x.cells) crossings) (sym long) kept.crossed;
+        lined = kept.lined;
         gathered = subst (λ m. All (AreCells m) areas) (sym long) kept.gathered;
         placed = kept.placed ∙ sym long;
         found = λ c below. kept.found c (omega (arith, long));
@@ -156,7 +198,9 @@ module _ (links : List (List Link)) (count : ℕ) (places : List Places) (crossi
         few_claims = omega (arith, total);
         counted = kept.counted;
         linked = kept.linked;
+        unlooped = kept.unlooped;
         crossed = All-push (λ x. AreCells (length links) x.cells) crossings (record { cells = cells; flows = [] }) kept.crossed are;
+        lined = All-push AreLines crossings (record { cells = cells; flows = [] }) kept.lined (AreLines-none cells);
         gathered = kept.gathered;
         placed = same_long ∙ kept.placed;
         found = λ c below.
@@ -181,8 +225,8 @@ module _ (links : List (List Link)) (count : ℕ) (places : List Places) (crossi
       ∙ crossing_claims-set (map completed crossings) k (completed y) (omega (arith, length-map crossings completed))
 
   -- a flow line is added
-  pub kept_flow : (places' : List Places) (crossings' : List BuiltCrossing) (firsts' owners' : List ℕ) (k : ℕ) (line : List CellNo) (members : set.FinSet nat_cmp) → IsKept links count places crossings areas firsts owners → k < length crossings → length owners' ≤ 256 → ((c : CellNo) → set.contains members c.0 ≡ has_cell line c) → ((c : CellNo) → has_cell line c ≡ true → (has_cell (get_or crossings k no_crossing).cells c && not (in_flow (get_or crossings k no_crossing).flows c)) ≡ true) → length places' ≡ length places → ((c : ℕ) → c < length places → places_list (get_or places' c Free) ≡ marked (set.contains members c) k (length (get_or crossings k no_crossing).flows) (places_list (get_or places c Free))) → crossings' ≡ set crossings k (with_line (get_or crossings k no_crossing) line) → AreNumbered (map completed crossings') firsts' owners' → IsKept links count places' crossings' areas firsts' owners'
-  kept_flow places' crossings' firsts' owners' k line members kept within few is_member free same_long marks more numbered =
+  pub kept_flow : (places' : List Places) (crossings' : List BuiltCrossing) (firsts' owners' : List ℕ) (k : ℕ) (line : List CellNo) (members : set.FinSet nat_cmp) → IsKept links count places crossings areas firsts owners → k < length crossings → length owners' ≤ 256 → AreCells (length links) line → ((c : CellNo) → set.contains members c.0 ≡ has_cell line c) → ((c : CellNo) → has_cell line c ≡ true → (has_cell (get_or crossings k no_crossing).cells c && not (in_flow (get_or crossings k no_crossing).flows c)) ≡ true) → length places' ≡ length places → ((c : ℕ) → c < length places → places_list (get_or places' c Free) ≡ marked (set.contains members c) k (length (get_or crossings k no_crossing).flows) (places_list (get_or places c Free))) → crossings' ≡ set crossings k (with_line (get_or crossings k no_crossing) line) → AreNumbered (map completed crossings') firsts' owners' → IsKept links count places' crossings' areas firsts' owners'
+  kept_flow places' crossings' firsts' owners' k line members kept within few are is_member free same_long marks more numbered =
       let x : BuiltCrossing = get_or crossings k no_crossing in
       let long : length (set crossings k (with_line x line)) ≡ length crossings = length-set crossings k (with_line x line) in
       subst (λ xs. AreNumbered (map completed xs) firsts' owners' → IsKept links count places' xs areas firsts' owners') (sym more)
@@ -194,7 +238,9 @@ module _ (links : List (List Link)) (count : ℕ) (places : List Places) (crossi
         few_claims = omega (arith, all.owners_are_all);
         counted = kept.counted;
         linked = kept.linked;
+        unlooped = kept.unlooped;
         crossed = All-set (λ y. AreCells (length links) y.cells) crossings k (with_line x line) (All-get_or (λ y. AreCells (length links) y.cells) crossings k no_crossing within kept.crossed) kept.crossed;
+        lined = All-set AreLines crossings k (with_line x line) (AreLines-line (length links) x line (All-get_or AreLines crossings k no_crossing within kept.lined) are free) kept.lined;
         gathered = kept.gathered;
         placed = same_long ∙ kept.placed;
         found = λ c below.

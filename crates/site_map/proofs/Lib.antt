@@ -7,3 +7,4 @@ pub mod CrossingLemmas
 pub mod LinkLemmas
 pub mod PlaceLemmas
 pub mod SiteLemmas
+pub mod ValidLemmas

@@ -1,8 +1,8 @@
 -- Crossings and their flows.
-use Rattle.std.specs.Prelude.{ℕ, ◌+◌, max, Bool, not, List, [], ◌∷◌, ◌++◌, length}
+use Rattle.std.specs.Prelude.{◌≡◌, ℕ, ◌+◌, ◌<◌, max, Bool, true, false, not, List, [], ◌∷◌, ◌++◌, length, All, AllPairs}
 use Rattle.std.specs.List.{filter, list_any, position_or_len}
 use Rattle.fleet_base.specs.declared.numbers.CellNo.{CellNo}
-use Rattle.site_map.specs.Cells.{has_cell}
+use Rattle.site_map.specs.Cells.{has_cell, CellsRise}
 
 -- a crossing: its cells and its flows, all ascending
 pub record BuiltCrossing : Type 0 where
@@ -43,3 +43,13 @@ crossing_claims (x ∷ xs) = claim_count_of x + crossing_claims xs
 -- the number of the cell's flow: how many flows stand before the first that has the cell
 abbrev pub flow_of : BuiltCrossing → CellNo → ℕ
 flow_of crossing c = position_or_len (λ flow. has_cell flow c) crossing.flows
+
+-- at least one cell, ascending, each one of these
+pub record IsFlow (cells flow : List CellNo) : Type 0 where
+  pub some : 0 < length flow
+  pub rise : CellsRise 0 flow
+  pub within : All (λ c. has_cell cells c ≡ true) flow
+
+-- no cell is in two of the flows
+abbrev pub AreApart : List (List CellNo) → Type 0
+AreApart flows = AllPairs (λ flow other. All (λ c. has_cell flow c ≡ false) other) flows

@@ -1,5 +1,5 @@
 -- How a site is kept.
-use Rattle.std.specs.Prelude.{◌≡◌, ℕ, ◌+◌, ◌<◌, ◌≤◌, Bool, not, ◌&&◌, ◌==◌, if◌then◌else◌, List, [], ◌∷◌, ◌++◌, map, length, take, Some, None, slice_index, slice_index_or, All}
+use Rattle.std.specs.Prelude.{◌≡◌, ℕ, ◌+◌, ◌<◌, ◌≤◌, Bool, false, not, ◌&&◌, ◌==◌, if◌then◌else◌, List, [], ◌∷◌, ◌++◌, map, length, take, Some, None, slice_index, slice_index_or, All}
 use Rattle.std.specs.List.{list_any}
 use Rattle.std.specs.Option.{unwrap_or}
 use Rattle.std.specs.FinSet as set
@@ -12,7 +12,7 @@ use Rattle.site_map.specs.declared.places.Place.{Place}
 use Rattle.site_map.specs.declared.places.Places.{Places}
 use Rattle.site_map.specs.declared.places.Places.TheVariants.{Free, One, Two}
 use Rattle.site_map.specs.Cells.{has_cell, CellsRise, LinksRise}
-use Rattle.site_map.specs.Crossings.{BuiltCrossing, completed, crossing_claims, flow_of, in_flow}
+use Rattle.site_map.specs.Crossings.{AreApart, BuiltCrossing, completed, crossing_claims, flow_of, in_flow, IsFlow}
 use Rattle.site_map.specs.Built.{BuiltSite, crossing_at, link_total}
 
 -- the places as a list
@@ -63,6 +63,11 @@ pub record AreCells (n : ℕ) (cells : List CellNo) : Type 0 where
   pub known : All (λ c. c.0 < n) cells
   pub some : 0 < length cells
 
+-- the flow lines of a crossing are flows of its cells, and apart
+pub record AreLines (crossing : BuiltCrossing) : Type 0 where
+  pub flows : All (IsFlow crossing.cells) crossing.flows
+  pub apart : AreApart crossing.flows
+
 -- crossing k of these has the claim with this number, the claims of crossings being numbered from 0
 pub record IsOwner (crossings : List BuiltCrossing) (claim k : ℕ) : Type 0 where
   pub known : k < length crossings
@@ -85,7 +90,9 @@ pub record IsKept (links : List (List Link)) (link_count : ℕ) (places : List P
   pub few_claims : crossing_claims (map completed crossings) ≤ MAX_CROSSING_CLAIMS
   pub counted : link_count ≡ link_total links
   pub linked : All (AreLinks (length links)) links
+  pub unlooped : (c : ℕ) → All (λ l. (l.to.0 == c) ≡ false) (slice_index_or links c [])
   pub crossed : All (λ x. AreCells (length links) x.cells) crossings
+  pub lined : All AreLines crossings
   pub gathered : All (AreCells (length links)) areas
   pub placed : length places ≡ length links
   pub found : (c : CellNo) → c.0 < length links → places_list (slice_index_or places c.0 Free) ≡ places_from 0 crossings c

@@ -5,3 +5,4 @@ pub mod Claims
 pub mod Goals
 pub mod Refusals
 pub mod Inside
+pub mod Valid

@@ -9,6 +9,7 @@ ghost use Rattle.fleet_model.specs.Sites.{exclude, footprint_of, in_conflict, li
 ghost use Rattle.site_map.specs.Built.{area_at, crossing_at, link_total};
 ghost use Rattle.site_map.specs.Cells.{CellsRise, LinksRise};
 ghost use Rattle.site_map.specs.Claims.{claim_total, group_at, names_of, site_of};
+ghost use Rattle.site_map.specs.Valid.{IsValidSite};
 
 use crate::builder::SiteBuilder;
 use crate::names::ClaimName;
@@ -36,11 +37,13 @@ impl Model for Site {
 }
 
 impl Site {
-    /// The number of cells. Every site is one that the rules speak of.
+    /// The number of cells. Every site is one that the rules speak of, and keeps the limits and the
+    /// order of its parts.
     pub fn cell_count(&self) -> u32
         ensures count { result ≡ self.now.cells }
         ensures site { IsSite (site_of self.now) }
         ensures counted { IsCounted (site_of self.now) }
+        ensures valid { IsValidSite self.now }
     {
         let built = &self.built;
         built.links.len() as u32

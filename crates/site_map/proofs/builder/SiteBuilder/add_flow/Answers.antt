@@ -71,7 +71,7 @@ invariant_of-self-2 c =
     (subst (λ fs. IsKept c.self.inside.links.items c.self.inside.link_count c.mark.new.places cs c.self.inside.areas.items fs owners) (sym firsts_back)
     (subst (λ os. IsKept c.self.inside.links.items c.self.inside.link_count c.mark.new.places cs c.self.inside.areas.items c.number_claims.new.firsts os) (sym owners_back)
     (kept_flow c.self.inside.links.items c.self.inside.link_count c.self.inside.places.items c.self.inside.crossings.items c.self.inside.areas.items c.self.inside.firsts.items c.self.inside.owners.items
-    c.mark.new.places cs c.number_claims.new.firsts c.number_claims.new.owners k c.args.line c.args.members.now c.self.invariant within owners_few c.requires.members
+    c.mark.new.places cs c.number_claims.new.firsts c.number_claims.new.owners k c.args.line c.args.members.now c.self.invariant within owners_few (subst (λ m. AreCells m c.args.line) (ap (λ (s : BuiltSite). s.cells) (sym c.self.view_is)) c.requires.line) c.requires.members
     (subst (λ (s : BuiltSite). (d : CellNo) → has_cell c.args.line d ≡ true → (has_cell (crossing_at s k).cells d && not (in_flow (crossing_at s k).flows d)) ≡ true) (sym c.self.view_is) c.requires.free)
     same_long
     (λ j inside.
