@@ -1,0 +1,12 @@
+pub mod Rows
+pub mod Names
+pub mod SiteKinds
+pub mod LinkKinds
+pub mod FleetKinds
+pub mod Keywords
+pub mod Steps
+pub mod Parse
+pub mod Runs
+pub mod Texts
+pub mod Cuts
+pub mod Fronts

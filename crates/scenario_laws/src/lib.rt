@@ -1,0 +1,8 @@
+//! Laws that join how a scenario is printed with how it is read.
+#![tactic(auto)]
+
+pub mod laws;
+pub mod samples;
+#[cfg(test)]
+mod tests;
+pub mod values;
