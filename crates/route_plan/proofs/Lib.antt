@@ -1,0 +1,6 @@
+pub mod Links
+pub mod LeastLabels
+pub mod Agreement
+pub mod Checking
+pub mod Entering
+pub mod Searching

@@ -1,0 +1,4 @@
+pub mod Labels
+pub mod Tight
+pub mod Incoming
+pub mod Search
