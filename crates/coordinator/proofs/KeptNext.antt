@@ -44,6 +44,10 @@ module _ (c : Inside) (kept : IsKept c) where
   pub robot_is : (r : ℕ) → r < length c.starts.items → r < length state.fleet.starts
   robot_is r known = omega (arith, ap length kept.state.starts)
 
+  -- a robot of the book that callers see
+  pub robot_in : (b : Book) → shown c ≡ b → (r : ℕ) → r < length b.starts → r < length state.fleet.starts
+  robot_in b seen r known = robot_is r (omega (arith, known, ap (λ (d : Book). length d.starts) seen))
+
   -- the journal with one more entry, and tables of the state that the call leaves
   module _ (journal : Vec Entry Global) (tables : Tables) (r : ℕ) (call : Call) (entry : Entry) (gives : (turn state r call).entry ≡ Some entry)
       (items : journal.items ≡ c.journal.items ++ entry ∷ []) (shows : Shows tables (turn state r call).after) (room : vec_len journal + tables.owed ≤ vec_capacity journal) where

@@ -3,6 +3,7 @@ pub mod Backlogs
 pub mod Cancels
 pub mod CyclesShown
 pub mod DeferredRoutes
+pub mod Detouring
 pub mod EndCells
 pub mod KeptNext
 pub mod MergedRoutes
@@ -10,10 +11,12 @@ pub mod OpeningShown
 pub mod PendingRoutes
 pub mod Proposed
 pub mod Proposing
+pub mod Replans
 pub mod Reporting
 pub mod Retries
 pub mod Routes
 pub mod Searches
+pub mod ShutCells
 pub mod Standing
 pub mod Told
 pub mod Transitions

@@ -1,6 +1,7 @@
 -- The early causes of a proposal's refusal.
-use Rattle.std.proofs.Common.{◌==◌, get_or, ◌≡◌, ℕ, ◌<◌, ◌≤◌, not, Bool, true, false, List, [], ◌∷◌, length, Some, None, sym, ap, subst, ◌∙◌, refl, arith}
+use Rattle.std.proofs.Common.{◌==◌, get_or, ◌≡◌, ℕ, ◌<◌, ◌≤◌, not, Bool, true, false, List, [], ◌∷◌, length, Option, Some, None, sym, ap, subst, ◌∙◌, refl, arith}
 use Rattle.std.proofs.lemmas.Bool.{le-ltb, lt-ltb}
+use Rattle.fleet_base.specs.declared.answers.ProposeRefused.{ProposeRefused}
 use Rattle.fleet_base.specs.declared.answers.ProposeRefused.TheVariants as refused
 use Rattle.fleet_base.specs.declared.numbers.CellNo.{CellNo}
 use Rattle.fleet_model.specs.Lists.{first_some, when}
@@ -10,7 +11,7 @@ use Rattle.fleet_model.specs.States.{State, pending_of}
 use Rattle.fleet_model.specs.Calls.{begin_at, unlinked_at}
 use Rattle.plan_events.specs.Shapes.{shape_cause}
 use Rattle.plan_events.proofs.Causes.{accepted_known, accepted_shape}
-use Rattle.coordinator.specs.Proposals.{early_cause}
+use Rattle.coordinator.specs.Proposals.{early_cause, refused_or}
 use Rattle.coordinator.proofs.Routes.{none_unlinked}
 use Rattle.coordinator.proofs.KeptNext.{state}
 use Rattle.coordinator.proofs.MergedRoutes.{end_at}
@@ -21,7 +22,7 @@ use Rattle.fleet_model.proofs.Options.{none_of}
 use Rattle.fleet_model.proofs.Tables.{same_test}
 use Rattle.site_map.specs.Claims.{site_of}
 use Rattle.std.specs.Option.{is_some}
-use Rattle.std.specs.Prelude.{slice_get}
+use Rattle.std.specs.Prelude.{Ok, slice_get}
 
 unlinked_none : (site : Site) (cells : List CellNo) → IsWalk site cells → unlinked_at site cells ≡ None
 unlinked_none site [] walk = refl
@@ -62,3 +63,8 @@ module _ (c : Inside) (kept : IsKept c) (r : ℕ) (cells : List CellNo) (known :
         early_at s r cells is.0 none_waits shape_now
         ∙ ap (λ a. when (not (begin_at a cells)) (refused.BadStart a)) (sym is.1)
         ∙ ap (λ b. when b (refused.BadStart end)) (ap (λ b. not b) (begin_as end d cells long) ∙ sym test)
+
+-- a proposal that is let through has no early cause
+pub passed : {A : Type 0} (o : Option ProposeRefused) (x value : A) → Ok x ≡ refused_or o value → o ≡ None
+passed None x value is = refl
+passed (Some refusal) x value is = absurd (cc)

@@ -5,3 +5,4 @@ pub mod Merging
 pub mod Proposals
 pub mod Openings
 pub mod Endings
+pub mod Replans

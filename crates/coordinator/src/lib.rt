@@ -4,13 +4,16 @@
 
 mod cancel;
 pub mod coordinator;
+pub mod laws;
 mod look;
 mod merging;
 mod opening;
 mod propose;
 pub mod refused;
+mod replan;
 mod report;
 mod retry;
+mod shut;
 mod tables;
 #[cfg(test)]
 mod tests;

@@ -1,14 +1,13 @@
 //! The proposal of a route.
 
-ghost use Rattle.std.specs.Prelude.{◌≡◌, ◌<◌, ◌+◌, ◌^◌, List, None, Some, Ok, Err, IfOk, IfErr, length};
+ghost use Rattle.std.specs.Prelude.{◌≡◌, ◌<◌, ◌^◌, None, IfOk, length};
 ghost use Rattle.fleet_base.specs.declared.answers.ProposeRefused.TheVariants as propose_refused;
 ghost use Rattle.fleet_model.specs.Calls.{deferring, propose};
 ghost use Rattle.fleet_model.specs.States.{block_of};
-ghost use Rattle.merge_op.specs.Blocked.{IsSetOf};
-ghost use Rattle.fleet_model.specs.Sites.{needs, steps};
+ghost use Rattle.fleet_model.specs.Sites.{steps};
 ghost use Rattle.site_map.specs.Claims.{site_of};
 ghost use Rattle.coordinator.specs.Books.{book_after, IsAnswer, state_of};
-ghost use Rattle.coordinator.specs.Proposals.{block_with, early_cause, of_shape, refused_or};
+ghost use Rattle.coordinator.specs.Proposals.{early_cause, of_shape, refused_or, WouldDefer};
 
 use crate::coordinator::Coordinator;
 use crate::merging::Merging;
@@ -75,10 +74,7 @@ impl Coordinator {
         needed: ClaimSet,
         blocker: Blocker,
     ) -> Result<Proposed, ProposeRefused>
-        requires early { early_cause (state_of self.old) robot.0 cells.now ≡ None }
-        requires needed { IsSetOf needed (needs (site_of self.old.site) cells.now) }
-        requires blocked { block_of (deferring (state_of self.old) robot.0 cells.now) robot.0 cells.now
-            ≡ Some (block_with (deferring (state_of self.old) robot.0 cells.now) robot.0 blocker) }
+        requires { WouldDefer self.old robot.0 cells.now needed blocker }
         ensures answer { IsAnswer propose_refused.NoMemory result (propose (state_of self.old) robot.0 cells.now).answer }
         ensures book { self.new ≡ book_after result (propose (state_of self.old) robot.0 cells.now).entry self.old }
     {

@@ -76,7 +76,7 @@ impl Coordinator {
 }
 
 // How many events a route has.
-fn event_count(site: &Site, cells: &[CellNo]) -> u64
+pub(crate) fn event_count(site: &Site, cells: &[CellNo]) -> u64
     requires { shape_cause (site_of site.now) cells.now ≡ None }
     ensures count { result ≡ length (steps (site_of site.now) cells.now) }
     ensures small { result < 2 ^ 32 }

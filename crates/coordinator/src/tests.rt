@@ -1,12 +1,15 @@
 //! Runs of robots at a junction, in the middle of which, cell 1, three lanes meet.
 
+ghost use Rattle.std.specs.Prelude.{◌<◌};
+
 use crate::coordinator::Coordinator;
 use crate::refused::NewRefused;
 use fleet_base::answers::{
-    Block, CancelRefused, EventLook, PendingLook, ProposeRefused, Proposed, ReportRefused,
-    RetryRefused, UnknownRobot, WithdrawRefused, Withdrawn,
+    Block, CancelRefused, EventLook, PendingLook, ProposeRefused, Proposed, ReplanRefused,
+    ReportRefused, RetryRefused, UnknownRobot, WithdrawRefused, Withdrawn,
 };
 use fleet_base::numbers::{CellNo, ClaimNo, EventNo, Kind, RobotNo, Span};
+use route_plan::cell_set::CellSet;
 use site_map::builder::SiteBuilder;
 use site_map::refused::BuildRefused;
 use site_map::site::Site;
@@ -181,6 +184,57 @@ fn events_are_taken_back(rt: HostRuntime) -> Result<(), Fail> {
     check_merged(&rt, &mut fleet, first, &[CellNo(1), CellNo(2)], 7, 9);
     let unknown = ReportRefused::NotNext { next: None };
     assert_eq!(rt; fleet.report(second, EventNo(1)), Err(unknown));
+    Ok(())
+}
+
+// Lanes from cell 0 over 1 and 2 to cell 3, and a longer way from 1 over 4 to 3.
+fn bypass(alloc: Global) -> Result<Site, BuildRefused> {
+    let mut builder = SiteBuilder::new(alloc);
+    for _ in 0..5u32 {
+        builder.cell()?;
+    }
+    for (from, to, cost) in [(0, 1, 1), (1, 2, 1), (2, 3, 1), (1, 4, 2), (4, 3, 2u32)] {
+        builder.link(CellNo(from), CellNo(to), cost)?;
+        builder.link(CellNo(to), CellNo(from), cost)?;
+    }
+    Ok(builder.finish())
+}
+
+fn only(cell: u32) -> CellSet
+    requires { cell < 1024 }
+{
+    let mut set = CellSet::new();
+    set.put(CellNo(cell));
+    set
+}
+
+#[test]
+fn detour_replaces_pending_route(rt: HostRuntime) -> Result<(), Fail> {
+    let site = bypass(rt.alloc())?;
+    assert!(rt; site.cell_count() == 5);
+    let mut fleet = Coordinator::new(rt.alloc(), site, &[CellNo(1), CellNo(2)], 1_000_000)?;
+    let (first, second) = (RobotNo(0), RobotNo(1));
+    let (near, far) = (only(1), only(3));
+    assert_eq!(rt; fleet.replan(first, &far), Err(ReplanRefused::NoPending));
+    let deferred = fleet.propose(first, &[CellNo(1), CellNo(2), CellNo(3)]);
+    assert!(rt; matches!(deferred, Ok(Proposed::Deferred(_))));
+    let deferred = fleet.propose(second, &[CellNo(2), CellNo(1), CellNo(0)]);
+    assert!(rt; matches!(deferred, Ok(Proposed::Deferred(block)) if block.cycle.len() == 2));
+    assert_eq!(rt; fleet.replan(first, &near), Err(ReplanRefused::AtGoal));
+    let taken = only(2);
+    assert_eq!(rt; fleet.replan(first, &taken), Err(ReplanRefused::NoDetour));
+    let span = Span {
+        first: EventNo(1),
+        last: EventNo(6),
+    };
+    assert_eq!(rt; fleet.replan(first, &far), Ok(span));
+    let span = Span {
+        first: EventNo(7),
+        last: EventNo(12),
+    };
+    assert_eq!(rt; fleet.retry(second), Ok(span));
+    assert!(rt; first.0 < fleet.robots());
+    assert_eq!(rt; fleet.end(first), CellNo(3));
     Ok(())
 }
 

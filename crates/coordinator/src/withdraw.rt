@@ -1,10 +1,10 @@
 //! The withdrawal of events.
 
-ghost use Rattle.std.specs.Prelude.{◌≡◌, ◌<◌, ◌≤◌, length};
+ghost use Rattle.std.specs.Prelude.{◌≡◌, ◌<◌, ◌≤◌, length, IfErr, IfOk, Err};
 ghost use Rattle.fleet_model.specs.Plans.{own, unfinished};
 ghost use Rattle.fleet_model.specs.Calls.{withdraw};
 ghost use Rattle.coordinator.specs.Books.{book_after, state_of};
-ghost use Rattle.coordinator.specs.Endings.{end_without, target_of};
+ghost use Rattle.coordinator.specs.Endings.{end_without, target_of, IsRemoval};
 
 use crate::coordinator::Coordinator;
 use fleet_base::answers::{WithdrawRefused, Withdrawn};
@@ -19,6 +19,23 @@ impl Coordinator {
         ensures answer { result ≡ (withdraw (state_of self.old) robot.0).answer }
         ensures book { self.new ≡ book_after result (withdraw (state_of self.old) robot.0).entry self.old }
     {
+        let found = self.removal(robot)?;
+        self.tables.cut(&self.site, robot, found.removed, found.end);
+        self.journal.push_reserved(Entry {
+            robot,
+            act: Act::Withdrawn {
+                removed: found.removed,
+                end: found.end,
+            },
+        });
+        Ok(found)
+    }
+
+    // What a withdrawal removes, and the cell in which the robot then ends.
+    fn removal(&self, robot: RobotNo) -> Result<Withdrawn, WithdrawRefused>
+        ensures found { IfOk result (IsRemoval self.now robot.0) }
+        ensures refused { IfErr result (λ e. (withdraw (state_of self.now) robot.0).answer ≡ Err e) }
+    {
         if robot.0 >= self.robots() {
             return Err(WithdrawRefused::UnknownRobot);
         }
@@ -27,11 +44,6 @@ impl Coordinator {
             return Err(WithdrawRefused::Nothing);
         }
         let end = self.end_before(robot, removed);
-        self.tables.cut(&self.site, robot, removed, end);
-        self.journal.push_reserved(Entry {
-            robot,
-            act: Act::Withdrawn { removed, end },
-        });
         Ok(Withdrawn { removed, end })
     }
 

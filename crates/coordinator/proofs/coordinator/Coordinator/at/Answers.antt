@@ -1,6 +1,6 @@
-use Rattle.std.proofs.Common.{◌≡◌, ◌<◌, length, ap, sym, subst, ◌∙◌, arith}
+use Rattle.std.proofs.Common.{◌≡◌, length, ap, sym, subst, ◌∙◌}
 use Rattle.coordinator.specs.Books.{Book, state_of}
-use Rattle.coordinator.proofs.KeptNext.{robot_is, state}
+use Rattle.coordinator.proofs.KeptNext.{robot_in, state}
 use Rattle.coordinator.proofs.MergedRoutes.{tables_known}
 use Rattle.std.proofs.lemmas.Option.{same_Some}
 use Rattle.std.specs.Prelude.{slice_get}
@@ -10,19 +10,11 @@ use Rattle.robot_tables.specs.Robots.{Robots}
 use Rattle.coordinator.proofs.coordinator.Coordinator.at.Goals as goal
 
 pub at-requires : goal.at-requires
-at-requires c =
-    let i = c.self.inside in
-    let k = c.self.invariant in
-    let r = c.args.robot.0 in
-    let known : r < length i.starts.items = omega (arith, c.requires, ap (λ (b : Book). length b.starts) c.self.view_is) in
-    tables_known i k r (robot_is i k r known)
+at-requires c = tables_known c.self.inside c.self.invariant c.args.robot.0 (robot_in c.self.inside c.self.invariant c.args.self.now c.self.view_is c.args.robot.0 c.requires)
 
 pub returns : goal.returns
 returns c =
-    let i = c.self.inside in
-    let k = c.self.invariant in
-    let r = c.args.robot.0 in
-    let known : r < length i.starts.items = omega (arith, c.requires, ap (λ (b : Book). length b.starts) c.self.view_is) in
-    let there = table_get (cell_of (state i k).fleet) (length (state i k).fleet.starts) r (robot_is i k r known) in
-    subst (λ (b : Book). c.at.result ≡ cell_of (state_of b).fleet r) c.self.view_is
-    (same_Some c.at.result (cell_of (state i k).fleet r) (sym c.at.ensures ∙ ap (λ (t : Robots). slice_get t.places r) k.tables.known ∙ there))
+    let m = (state c.self.inside c.self.invariant).fleet in
+    let there = table_get (cell_of m) (length m.starts) c.args.robot.0 (robot_in c.self.inside c.self.invariant c.args.self.now c.self.view_is c.args.robot.0 c.requires) in
+    subst (λ (b : Book). c.at.result ≡ cell_of (state_of b).fleet c.args.robot.0) c.self.view_is
+    (same_Some c.at.result (cell_of m c.args.robot.0) (sym c.at.ensures ∙ ap (λ (t : Robots). slice_get t.places c.args.robot.0) c.self.invariant.tables.known ∙ there))

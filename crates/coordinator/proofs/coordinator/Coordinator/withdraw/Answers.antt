@@ -1,108 +1,55 @@
-use Rattle.std.proofs.Common.{◌≡◌, ◌<◌, ◌≤◌, length, ap, sym, subst, ◌∙◌, arith}
-use Rattle.fleet_base.specs.declared.numbers.CellNo.{CellNo}
-use Rattle.fleet_model.specs.Plans.{own, removable_tail, unfinished}
-use Rattle.coordinator.specs.Books.{Book, state_of}
-use Rattle.coordinator.specs.Endings.{end_without}
-use Rattle.coordinator.proofs.KeptNext.{good, robot_is, state}
+use Rattle.std.proofs.Common.{◌≡◌, sym, subst}
+use Rattle.std.specs.Prelude.{Ok}
+use Rattle.std.specs.Option.{option_to_list}
+use Rattle.fleet_model.specs.Calls.{withdraw}
+use Rattle.coordinator.specs.Books.{state_of, with_entries}
+use Rattle.coordinator.specs.Endings.{IsRemoval}
+use Rattle.coordinator.specs.Kept.{shown}
+use Rattle.coordinator.proofs.KeptNext.{robot_is}
 use Rattle.coordinator.proofs.MergedRoutes.{tables_known, told}
-use Rattle.coordinator.proofs.Withdrawing.{above_zero, answer_then, book_then, end_cell_then, end_then, enough, enough_here, kept_then, owed_enough, unawaited}
+use Rattle.coordinator.proofs.Withdrawing.{answer_is, book_then, cell_then, enough_here, kept_then, owed_enough, unawaited}
 use Rattle.coordinator.proofs.coordinator.Coordinator.withdraw.Goals as goal
-
-pub end_before-end-requires-clause-few : goal.end_before-end-requires-clause-few
-end_before-end-requires-clause-few c =
-    let i = c.self.inside in
-    let k = c.self.invariant in
-    let r = c.args.robot.0 in
-    let known : r < length i.starts.items = omega (arith, c.if-robot-robots.false, c.robots.ensures.starts, ap (λ (b : Book). length b.starts) c.self.view_is) in
-    let count : c.removable-removed.result ≡ length (removable_tail (state i k).fleet r) = c.removable-removed.ensures (state i k).fleet (good i k).plan k.state.site (sym k.tables.events) in
-    let some = above_zero c.removable-removed.result c.if-removed-eq0.false in
-    subst (λ (b : Book). c.removable-removed.result ≤ length (own r (unfinished (state_of b).fleet))) c.self.view_is (enough i k r known c.removable-removed.result count some)
 
 pub cut-requires-clause-ends : goal.cut-requires-clause-ends
 cut-requires-clause-ends c =
-    let i = c.self.inside in
-    let k = c.self.invariant in
-    let r = c.args.robot.0 in
-    let known : r < length i.starts.items = omega (arith, c.if-robot-robots.false, c.robots.ensures.starts, ap (λ (b : Book). length b.starts) c.self.view_is) in
-    tables_known i k r (robot_is i k r known)
+    let found = subst (λ b. IsRemoval b c.args.robot.0 c.in_ok-found.found) (sym c.self.view_is) c.in_ok-found.ensures.found in
+    tables_known c.self.inside c.self.invariant c.args.robot.0 (robot_is c.self.inside c.self.invariant c.args.robot.0 found.known)
 
 pub cut-requires-clause-told : goal.cut-requires-clause-told
-cut-requires-clause-told c =
-    let i = c.self.inside in
-    let k = c.self.invariant in
-    let r = c.args.robot.0 in
-    told i k r
+cut-requires-clause-told c = told c.self.inside c.self.invariant c.args.robot.0
 
 pub cut-requires-clause-end : goal.cut-requires-clause-end
 cut-requires-clause-end c =
-    let i = c.self.inside in
-    let k = c.self.invariant in
-    let r = c.args.robot.0 in
-    let known : r < length i.starts.items = omega (arith, c.if-robot-robots.false, c.robots.ensures.starts, ap (λ (b : Book). length b.starts) c.self.view_is) in
-    let count : c.removable-removed.result ≡ length (removable_tail (state i k).fleet r) = c.removable-removed.ensures (state i k).fleet (good i k).plan k.state.site (sym k.tables.events) in
-    let some = above_zero c.removable-removed.result c.if-removed-eq0.false in
-    let ended = c.end_before-end.ensures ∙ ap (λ (b : Book). end_without (state_of b).fleet r c.removable-removed.result) (sym c.self.view_is) in
-    subst (λ (a : CellNo). a.0 < i.site.cells) (sym (end_then i k r known c.removable-removed.result count some c.end_before-end.result ended)) (end_cell_then i k r known c.removable-removed.result count some)
+    let found = subst (λ b. IsRemoval b c.args.robot.0 c.in_ok-found.found) (sym c.self.view_is) c.in_ok-found.ensures.found in
+    cell_then c.self.inside c.self.invariant c.args.robot.0 c.in_ok-found.found found
 
 pub cut-requires-clause-unfinished : goal.cut-requires-clause-unfinished
 cut-requires-clause-unfinished c =
-    let i = c.self.inside in
-    let k = c.self.invariant in
-    let r = c.args.robot.0 in
-    let known : r < length i.starts.items = omega (arith, c.if-robot-robots.false, c.robots.ensures.starts, ap (λ (b : Book). length b.starts) c.self.view_is) in
-    let count : c.removable-removed.result ≡ length (removable_tail (state i k).fleet r) = c.removable-removed.ensures (state i k).fleet (good i k).plan k.state.site (sym k.tables.events) in
-    let some = above_zero c.removable-removed.result c.if-removed-eq0.false in
-    enough_here i k r known c.removable-removed.result count some
+    let found = subst (λ b. IsRemoval b c.args.robot.0 c.in_ok-found.found) (sym c.self.view_is) c.in_ok-found.ensures.found in
+    enough_here c.self.inside c.self.invariant c.args.robot.0 c.in_ok-found.found found
 
 pub cut-requires-clause-unawaited : goal.cut-requires-clause-unawaited
 cut-requires-clause-unawaited c =
-    let i = c.self.inside in
-    let k = c.self.invariant in
-    let r = c.args.robot.0 in
-    let known : r < length i.starts.items = omega (arith, c.if-robot-robots.false, c.robots.ensures.starts, ap (λ (b : Book). length b.starts) c.self.view_is) in
-    let count : c.removable-removed.result ≡ length (removable_tail (state i k).fleet r) = c.removable-removed.ensures (state i k).fleet (good i k).plan k.state.site (sym k.tables.events) in
-    let some = above_zero c.removable-removed.result c.if-removed-eq0.false in
-    unawaited i k r known c.removable-removed.result count some
+    let found = subst (λ b. IsRemoval b c.args.robot.0 c.in_ok-found.found) (sym c.self.view_is) c.in_ok-found.ensures.found in
+    unawaited c.self.inside c.self.invariant c.args.robot.0 c.in_ok-found.found found
 
 pub cut-requires-clause-owed : goal.cut-requires-clause-owed
 cut-requires-clause-owed c =
-    let i = c.self.inside in
-    let k = c.self.invariant in
-    let r = c.args.robot.0 in
-    let known : r < length i.starts.items = omega (arith, c.if-robot-robots.false, c.robots.ensures.starts, ap (λ (b : Book). length b.starts) c.self.view_is) in
-    let count : c.removable-removed.result ≡ length (removable_tail (state i k).fleet r) = c.removable-removed.ensures (state i k).fleet (good i k).plan k.state.site (sym k.tables.events) in
-    let some = above_zero c.removable-removed.result c.if-removed-eq0.false in
-    owed_enough i k r known c.removable-removed.result count some
+    let found = subst (λ b. IsRemoval b c.args.robot.0 c.in_ok-found.found) (sym c.self.view_is) c.in_ok-found.ensures.found in
+    owed_enough c.self.inside c.self.invariant c.args.robot.0 c.in_ok-found.found found
 
 pub invariant_of-self : goal.invariant_of-self
 invariant_of-self c =
-    let i = c.self.inside in
-    let k = c.self.invariant in
-    let r = c.args.robot.0 in
-    let known : r < length i.starts.items = omega (arith, c.if-robot-robots.false, c.robots.ensures.starts, ap (λ (b : Book). length b.starts) c.self.view_is) in
-    let count : c.removable-removed.result ≡ length (removable_tail (state i k).fleet r) = c.removable-removed.ensures (state i k).fleet (good i k).plan k.state.site (sym k.tables.events) in
-    let some = above_zero c.removable-removed.result c.if-removed-eq0.false in
-    let ended = c.end_before-end.ensures ∙ ap (λ (b : Book). end_without (state_of b).fleet r c.removable-removed.result) (sym c.self.view_is) in
-    kept_then i k r known c.removable-removed.result count some c.end_before-end.result ended c.push_reserved.new.self c.cut.new.self c.cut.ensures c.push_reserved.ensures.items c.push_reserved.ensures.len c.push_reserved.ensures.capacity
+    let found = subst (λ b. IsRemoval b c.args.robot.0 c.in_ok-found.found) (sym c.self.view_is) c.in_ok-found.ensures.found in
+    kept_then c.self.inside c.self.invariant c.args.robot.0 c.in_ok-found.found found c.push_reserved.new.self c.cut.new.self c.cut.ensures c.push_reserved.ensures.items c.push_reserved.ensures.len c.push_reserved.ensures.capacity
 
 pub returns-clause-answer : goal.returns-clause-answer
 returns-clause-answer c =
-    let i = c.self.inside in
-    let k = c.self.invariant in
-    let r = c.args.robot.0 in
-    let known : r < length i.starts.items = omega (arith, c.if-robot-robots.false, c.robots.ensures.starts, ap (λ (b : Book). length b.starts) c.self.view_is) in
-    let count : c.removable-removed.result ≡ length (removable_tail (state i k).fleet r) = c.removable-removed.ensures (state i k).fleet (good i k).plan k.state.site (sym k.tables.events) in
-    let some = above_zero c.removable-removed.result c.if-removed-eq0.false in
-    let ended = c.end_before-end.ensures ∙ ap (λ (b : Book). end_without (state_of b).fleet r c.removable-removed.result) (sym c.self.view_is) in
-    answer_then i k r known c.removable-removed.result count some c.end_before-end.result ended c.args.self.now c.self.view_is
+    let found = subst (λ b. IsRemoval b c.args.robot.0 c.in_ok-found.found) (sym c.self.view_is) c.in_ok-found.ensures.found in
+    subst (λ b. Ok c.in_ok-found.found ≡ (withdraw (state_of b) c.args.robot.0).answer) c.self.view_is (answer_is c.self.inside c.self.invariant c.args.robot.0 c.in_ok-found.found found)
 
 pub returns-clause-book : goal.returns-clause-book
 returns-clause-book c =
-    let i = c.self.inside in
-    let k = c.self.invariant in
-    let r = c.args.robot.0 in
-    let known : r < length i.starts.items = omega (arith, c.if-robot-robots.false, c.robots.ensures.starts, ap (λ (b : Book). length b.starts) c.self.view_is) in
-    let count : c.removable-removed.result ≡ length (removable_tail (state i k).fleet r) = c.removable-removed.ensures (state i k).fleet (good i k).plan k.state.site (sym k.tables.events) in
-    let some = above_zero c.removable-removed.result c.if-removed-eq0.false in
-    let ended = c.end_before-end.ensures ∙ ap (λ (b : Book). end_without (state_of b).fleet r c.removable-removed.result) (sym c.self.view_is) in
-    book_then i k r known c.removable-removed.result count some c.end_before-end.result ended c.push_reserved.new.self c.cut.new.self c.cut.ensures c.push_reserved.ensures.items c.push_reserved.ensures.len c.push_reserved.ensures.capacity c.args.self.now c.self.view_is
+    let found = subst (λ b. IsRemoval b c.args.robot.0 c.in_ok-found.found) (sym c.self.view_is) c.in_ok-found.ensures.found in
+    subst (λ b. shown (record c.self.inside { journal = c.push_reserved.new.self; tables = c.cut.new.self }) ≡ with_entries b (option_to_list (withdraw (state_of b) c.args.robot.0).entry)) c.self.view_is
+    (book_then c.self.inside c.self.invariant c.args.robot.0 c.in_ok-found.found found c.push_reserved.new.self c.cut.new.self c.cut.ensures c.push_reserved.ensures.items c.push_reserved.ensures.len c.push_reserved.ensures.capacity)
