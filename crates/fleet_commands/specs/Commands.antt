@@ -3,11 +3,14 @@ use Rattle.std.specs.Prelude.{ℕ, ◌<◌, All}
 use Rattle.fleet_model.specs.Calls.{Call}
 use Rattle.fleet_model.specs.Calls as call
 use Rattle.fleet_names.specs.Names.{Named, count_of}
-use Rattle.fleet_names.specs.Things.{is_cell, is_robot}
+use Rattle.fleet_names.specs.Things.{is_cell, is_area, is_robot}
 use Rattle.site_map.specs.Built.{BuiltSite}
+use Rattle.site_map.specs.Goals.{goal_cells}
+use Rattle.site_map.specs.declared.goal.Goal.{Goal}
+use Rattle.site_map.specs.declared.goal.Goal.TheVariants as goal
 use Rattle.fleet_commands.specs.declared.command.Command.{Command}
 use Rattle.fleet_commands.specs.declared.command.Request.{Request}
-use Rattle.fleet_commands.specs.declared.command.Request.TheVariants.{Propose, Retry, Cancel, Withdraw, Report, Look}
+use Rattle.fleet_commands.specs.declared.command.Request.TheVariants.{Propose, Retry, Cancel, Withdraw, Replan, Report, Look}
 
 -- the call that a request is, on a site
 abbrev pub request_call : BuiltSite → Request → Call
@@ -15,6 +18,7 @@ request_call site (Propose cells) = call.Propose cells
 request_call site Retry = call.Retry
 request_call site Cancel = call.Cancel
 request_call site Withdraw = call.Withdraw
+request_call site (Replan goal) = call.Replan (goal_cells site goal)
 request_call site (Report event) = call.Report event
 request_call site Look = call.LookAt
 
@@ -22,16 +26,22 @@ request_call site Look = call.LookAt
 abbrev pub call_of : BuiltSite → Command → ℕ × Call
 call_of site command = (command.robot.0, request_call site command.request)
 
--- the cells of a request have names
+-- the goal has a name
+abbrev pub IsDeclaredGoal : Named → Goal → Type 0
+IsDeclaredGoal names (goal.Cell c) = c.0 < count_of is_cell names
+IsDeclaredGoal names (goal.Area k) = k < count_of is_area names
+
+-- the cells and the goal of a request have names
 abbrev pub IsDeclaredRequest : Named → Request → Type 0
 IsDeclaredRequest names (Propose cells) = All (λ c. c.0 < count_of is_cell names) cells
 IsDeclaredRequest names Retry = Unit {0}
 IsDeclaredRequest names Cancel = Unit {0}
 IsDeclaredRequest names Withdraw = Unit {0}
+IsDeclaredRequest names (Replan goal) = IsDeclaredGoal names goal
 IsDeclaredRequest names (Report event) = Unit {0}
 IsDeclaredRequest names Look = Unit {0}
 
--- the robot of a command and its cells have names
+-- the robot of a command, its cells and its goal have names
 pub record IsDeclared (names : Named) (command : Command) : Type 0 where
   pub robot : command.robot.0 < count_of is_robot names
   pub request : IsDeclaredRequest names command.request

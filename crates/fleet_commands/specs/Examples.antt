@@ -5,6 +5,7 @@ use Rattle.fleet_names.specs.declared.thing.Thing.TheVariants.{Cell, Crossing, A
 use Rattle.fleet_names.specs.Names.{Named}
 use Rattle.site_lines.specs.declared.fault.At.{At}
 use Rattle.site_lines.specs.declared.fault.Code.{Code}
+use Rattle.site_map.specs.Built.{BuiltSite}
 use Rattle.fleet_commands.specs.declared.command.Command.{Command}
 use Rattle.fleet_commands.specs.declared.command.Request.{Request}
 use Rattle.fleet_commands.specs.Reading.{commands_of}
@@ -29,3 +30,7 @@ cells numbers = map (λ n. record { 0 = n }) numbers
 -- a refusal at a line
 abbrev pub bad : ℕ → Code → Result (List Command) At
 bad line code = Err (record { line = line; code = code })
+
+-- its site, whose area yard has the cells b and d
+abbrev pub junction_site : BuiltSite
+junction_site = record { cells = 4; crossings = []; areas = cells (1 ∷ 3 ∷ []) ∷ []; links = [] }

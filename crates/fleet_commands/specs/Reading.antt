@@ -14,9 +14,9 @@ use Rattle.fleet_commands.specs.declared.command.Command.{Command}
 use Rattle.fleet_commands.specs.declared.command.Request.{Request}
 use Rattle.fleet_commands.specs.declared.command.Request.TheVariants as request
 use Rattle.fleet_commands.specs.declared.keyword.Keyword.{Keyword}
-use Rattle.fleet_commands.specs.declared.keyword.Keyword.TheVariants.{Propose, Retry, Cancel, Withdraw, Report, Look}
+use Rattle.fleet_commands.specs.declared.keyword.Keyword.TheVariants.{Propose, Retry, Cancel, Withdraw, Replan, Report, Look}
 use Rattle.fleet_commands.specs.Keywords.{keyword_of}
-use Rattle.fleet_commands.specs.UsedNames.{robot_named, cells_named}
+use Rattle.fleet_commands.specs.UsedNames.{robot_named, cells_named, goal_named}
 
 -- the first of these words, those behind it, and the second
 abbrev pub first : List (List ℕ) → List ℕ
@@ -30,16 +30,19 @@ behind (word ∷ words) = words
 abbrev pub second : List (List ℕ) → List ℕ
 second words = first (behind words)
 
--- the rows of the codes: fewer words than these, more words, a word in the place of a number that isn't 1 to 15 digits, and a word that names nothing in its place
+-- fewer words than n
 abbrev pub too_few : ℕ → List (List ℕ) → Row
 too_few n words = record { fits = nat_lt (length words) n; code = C4 }
 
+-- more words than n
 abbrev pub too_many : ℕ → List (List ℕ) → Row
 too_many n words = record { fits = nat_lt n (length words); code = C5 }
 
+-- a word in the place of a number that isn't 1 to 15 digits
 abbrev pub no_number : List ℕ → Row
 no_number word = record { fits = not (is_number 15 word); code = C6 }
 
+-- words that name nothing in their place: one isn't declared, or is of another kind
 abbrev pub undeclared : {T : Type 0} → Option T → Row
 undeclared named = record { fits = is_none named; code = C7 }
 
@@ -53,9 +56,11 @@ faults_behind names Propose words = too_few 2 words ∷ undeclared (robot_named 
 faults_behind names Retry words = robot_faults names words
 faults_behind names Cancel words = robot_faults names words
 faults_behind names Withdraw words = robot_faults names words
+faults_behind names Replan words = too_few 2 words ∷ too_many 2 words ∷ undeclared (robot_named names (first words)) ∷ undeclared (goal_named names (second words)) ∷ []
 faults_behind names Report words = too_few 2 words ∷ too_many 2 words ∷ no_number (second words) ∷ undeclared (robot_named names (first words)) ∷ []
 faults_behind names Look words = robot_faults names words
 
+-- the table behind a first word, which begins a command or none
 abbrev pub keyword_faults : Named → Option Keyword → List (List ℕ) → List Row
 keyword_faults names None words = record { fits = true; code = C3 } ∷ []
 keyword_faults names (Some keyword) words = faults_behind names keyword words
@@ -78,9 +83,11 @@ request_of names Propose words = option_map (λ cells. request.Propose cells) (c
 request_of names Retry words = Some request.Retry
 request_of names Cancel words = Some request.Cancel
 request_of names Withdraw words = Some request.Withdraw
+request_of names Replan words = option_map (λ goal. request.Replan goal) (goal_named names (second words))
 request_of names Report words = Some (request.Report (record { 0 = digits_value 10 (second words) }))
 request_of names Look words = Some request.Look
 
+-- the command of a keyword and the words behind it
 abbrev pub command_behind : Named → Keyword → List (List ℕ) → Option Command
 command_behind names keyword words = option_and_then (λ r. option_map (λ q. record { robot = r; request = q }) (request_of names keyword words)) (robot_named names (first words))
 
@@ -89,6 +96,7 @@ abbrev pub command_in : Named → List (List ℕ) → Option Command
 command_in names [] = None
 command_in names (word ∷ words) = option_and_then (λ keyword. command_behind names keyword words) (keyword_of word)
 
+-- the value, unless there is a code
 abbrev pub unless : {T : Type 0} → Option Code → T → Result T Code
 unless (Some code) value = Err code
 unless None value = Ok value

@@ -2,6 +2,7 @@
 
 use fleet_base::numbers::{EventNo, RobotNo};
 use fleet_base::path::Path;
+use site_map::goal::Goal;
 
 /// A command: what a robot is to ask of the coordinator.
 #[derive(Drop)]
@@ -23,6 +24,8 @@ pub enum Request {
     Cancel,
     /// To take the last events of the robot back, as many as may be.
     Withdraw,
+    /// To replace the pending route by a detour to this goal.
+    Replan(Goal),
     /// To take the event as done. Its number is below 1,000,000,000,000,000.
     Report(EventNo),
     /// To say how the robot stands.

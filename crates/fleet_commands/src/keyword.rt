@@ -9,6 +9,7 @@ pub(crate) enum Keyword {
     Retry,
     Cancel,
     Withdraw,
+    Replan,
     Report,
     Look,
 }
@@ -22,6 +23,7 @@ pub(crate) fn keyword_of(word: &[u8]) -> Option<Keyword>
         b"retry" => Some(Keyword::Retry),
         b"cancel" => Some(Keyword::Cancel),
         b"withdraw" => Some(Keyword::Withdraw),
+        b"replan" => Some(Keyword::Replan),
         b"report" => Some(Keyword::Report),
         b"look" => Some(Keyword::Look),
         _ => None,

@@ -15,7 +15,7 @@ ghost use Rattle.fleet_commands.specs.declared.keyword.Keyword.TheVariants as wo
 use crate::command::{Command, Request};
 use crate::keyword::{Keyword, keyword_of};
 use crate::refused::LineRefused;
-use crate::used_names::{cell_named, robot_named};
+use crate::used_names::{cell_named, goal_named, robot_named};
 use crate::words::Words;
 use fleet_base::numbers::EventNo;
 use fleet_base::path::Path;
@@ -64,6 +64,7 @@ fn command_behind(
         Keyword::Retry => Ok(of_robot(Request::Retry, words, names)?),
         Keyword::Cancel => Ok(of_robot(Request::Cancel, words, names)?),
         Keyword::Withdraw => Ok(of_robot(Request::Withdraw, words, names)?),
+        Keyword::Replan => Ok(replan(words, names)?),
         Keyword::Report => Ok(report(words, names)?),
         Keyword::Look => Ok(of_robot(Request::Look, words, names)?),
     }
@@ -106,6 +107,20 @@ fn of_robot(request: Request, words: Words, names: &Names) -> Result<Command, Co
 {
     let robot = robot_named(names, words.one()?).ok_or(Code::C7)?;
     Ok(Command { robot, request })
+}
+
+// A robot, then a cell or an area.
+fn replan(words: Words, names: &Names) -> Result<Command, Code>
+    ensures says { Tells result (faults_behind names.now word.Replan words.entry) (command_behind names.now word.Replan words.entry) }
+    ensures declared { IfOk result (IsDeclared names.now) }
+{
+    let (robot, goal) = words.two()?;
+    let robot = robot_named(names, robot).ok_or(Code::C7)?;
+    let goal = goal_named(names, goal).ok_or(Code::C7)?;
+    Ok(Command {
+        robot,
+        request: Request::Replan(goal),
+    })
 }
 
 // A robot, then the number of an event.

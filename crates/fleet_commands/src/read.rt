@@ -19,8 +19,8 @@ use std::alloc::Global;
 /// number `first_line`.
 ///
 /// A bad line is refused exactly where one is there, as `Bad` with the number of the first one and
-/// its least code; `NoMemory` is want of memory alone. Every robot and cell of the commands has a
-/// name.
+/// its least code; `NoMemory` is want of memory alone. Every robot, cell and goal of the commands
+/// has a name.
 pub fn read_commands(
     alloc: Global,
     bytes: &[u8],
@@ -39,7 +39,7 @@ pub fn read_commands(
     // The first line that isn't good, with the least of its codes.
     ensures bad { (at : At) → result ≡ Err (ReadRefused.Bad at) → IsFirstBad names.now first_line (drop from bytes.now) at }
 
-    // The robots and cells of the commands have names.
+    // The robots, cells and goals of the commands have names.
     ensures declared { IfOk result (λ commands. All (IsDeclared names.now) commands.items) }
 {
     let mut commands = Vec::new(alloc);

@@ -6,11 +6,14 @@
 ghost use Rattle.std.specs.Prelude.{◌≡◌, ◌≢◌, ◌<◌, ◌≤◌, ℕ, List, [], ◌∷◌, ◌++◌, length, codes, Some, Ok};
 ghost use Rattle.fleet_names.specs.Names.{Named};
 ghost use Rattle.site_lines.specs.Readings.{least_code};
-ghost use Rattle.fleet_commands.specs.Examples.{said, asks, cells, bad};
+ghost use Rattle.fleet_model.specs.Calls as call;
+ghost use Rattle.fleet_commands.specs.Commands.{call_of};
+ghost use Rattle.fleet_commands.specs.Examples.{said, asks, cells, bad, junction_site};
 ghost use Rattle.fleet_commands.specs.Reading.{faults_of};
 
 use crate::command::Request;
 use site_lines::fault::Code;
+use site_map::goal::Goal;
 
 /// Each command, and what it asks.
 pub fn commands()
@@ -18,8 +21,22 @@ pub fn commands()
     ensures retry { said (codes "retry r1") ≡ Ok (asks 0 Request.Retry ∷ []) }
     ensures cancel { said (codes "cancel r1") ≡ Ok (asks 0 Request.Cancel ∷ []) }
     ensures withdraw { said (codes "withdraw r1") ≡ Ok (asks 0 Request.Withdraw ∷ []) }
+    ensures replan_cell { said (codes "replan r1 b") ≡ Ok (asks 0 (Request.Replan (Goal.Cell (record { 0 = 1 }))) ∷ []) }
+    ensures replan_area { said (codes "replan r1 yard") ≡ Ok (asks 0 (Request.Replan (Goal.Area 0)) ∷ []) }
     ensures report { said (codes "report r1 000000000000017") ≡ Ok (asks 0 (Request.Report (record { 0 = 17 })) ∷ []) }
     ensures look { said (codes "look r2") ≡ Ok (asks 1 Request.Look ∷ []) }
+{}
+
+/// The call that each command is, with its robot. The goal of a replan is a cell or an area's cells.
+pub fn calls()
+    ensures propose { call_of junction_site (asks 1 (Request.Propose (cells (0 ∷ 1 ∷ [])))) ≡ (1, call.Propose (cells (0 ∷ 1 ∷ []))) }
+    ensures retry { call_of junction_site (asks 0 Request.Retry) ≡ (0, call.Retry) }
+    ensures cancel { call_of junction_site (asks 0 Request.Cancel) ≡ (0, call.Cancel) }
+    ensures withdraw { call_of junction_site (asks 0 Request.Withdraw) ≡ (0, call.Withdraw) }
+    ensures replan_cell { call_of junction_site (asks 0 (Request.Replan (Goal.Cell (record { 0 = 2 })))) ≡ (0, call.Replan (cells (2 ∷ []))) }
+    ensures replan_area { call_of junction_site (asks 0 (Request.Replan (Goal.Area 0))) ≡ (0, call.Replan (cells (1 ∷ 3 ∷ []))) }
+    ensures report { call_of junction_site (asks 0 (Request.Report (record { 0 = 7 }))) ≡ (0, call.Report (record { 0 = 7 })) }
+    ensures look { call_of junction_site (asks 1 Request.Look) ≡ (1, call.LookAt) }
 {}
 
 /// Lines are read in order; blank ones and comments say nothing, and are counted.
@@ -50,7 +67,6 @@ pub fn bad_bytes()
 pub fn keywords()
     ensures other { said (codes "go r1") ≡ bad 8 Code.C3 }
     ensures ask { said (codes "ask look r1") ≡ bad 8 Code.C3 }
-    ensures replan { said (codes "replan r1 b") ≡ bad 8 Code.C3 }
     ensures capital { said (codes "Look r1") ≡ bad 8 Code.C3 }
     ensures scenario { said (codes "end") ≡ bad 8 Code.C3 }
     ensures before_number { said (codes "reports zz -1") ≡ bad 8 Code.C3 }
@@ -60,6 +76,7 @@ pub fn keywords()
 pub fn too_few_words()
     ensures robot { said (codes "withdraw") ≡ bad 8 Code.C4 }
     ensures cells { said (codes "propose r1") ≡ bad 8 Code.C4 }
+    ensures goal { said (codes "replan r1 # b") ≡ bad 8 Code.C4 }
     ensures before_name { said (codes "propose zz") ≡ bad 8 Code.C4 }
     ensures before_kind { said (codes "report a") ≡ bad 8 Code.C4 }
 {}
@@ -67,6 +84,7 @@ pub fn too_few_words()
 /// Too many words come before all that they say. A proposal has any number of cells.
 pub fn too_many_words()
     ensures robot { said (codes "retry r1 a") ≡ bad 8 Code.C5 }
+    ensures goal { said (codes "replan r1 a b") ≡ bad 8 Code.C5 }
     ensures before_number { said (codes "report r1 -1 2") ≡ bad 8 Code.C5 }
     ensures before_name { said (codes "look zz a") ≡ bad 8 Code.C5 }
 {}
@@ -88,5 +106,6 @@ pub fn names()
     ensures cell { said (codes "propose r1 a r2") ≡ bad 8 Code.C7 }
     ensures area { said (codes "propose r1 yard") ≡ bad 8 Code.C7 }
     ensures both { said (codes "propose a x") ≡ bad 8 Code.C7 }
+    ensures goal { said (codes "replan r1 x") ≡ bad 8 Code.C7 }
     ensures reporting { said (codes "report yard 1") ≡ bad 8 Code.C7 }
 {}

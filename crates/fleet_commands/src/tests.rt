@@ -5,6 +5,7 @@ use crate::refused::ReadRefused;
 use fleet_names::names::{NameRefused, Names};
 use fleet_names::thing::Thing;
 use site_lines::fault::{At, Code};
+use site_map::goal::Goal;
 use std::alloc::Global;
 use std::test::Fail;
 
@@ -30,7 +31,7 @@ fn junction(alloc: Global) -> Result<Names, NameRefused> {
     Ok(names)
 }
 
-// What a command asks: its word, and the last cell or the event.
+// What a command asks: its word, and the last cell, the goal or the event.
 fn asked(command: &Command) -> (&'static str, u64) {
     match &command.request {
         Request::Propose(route) => match route.cells() {
@@ -40,6 +41,8 @@ fn asked(command: &Command) -> (&'static str, u64) {
         Request::Retry => ("retry", 0),
         Request::Cancel => ("cancel", 0),
         Request::Withdraw => ("withdraw", 0),
+        Request::Replan(Goal::Cell(cell)) => ("replan", u64::from(cell.0)),
+        Request::Replan(Goal::Area(area)) => ("area", u64::from(*area)),
         Request::Report(event) => ("report", event.0),
         Request::Look => ("look", 0),
     }
@@ -58,13 +61,15 @@ fn fault_of(alloc: Global, text: &str, names: &Names) -> Result<Option<At>, Fail
 }
 
 const COMMANDS: &[u8] = b"end\npropose r1 a b a # back\n\nretry r2\ncancel r1\r\nwithdraw r1
-\t report r1 012\nlook r1";
+\treplan r2  b\nreplan r2 yard\nreport r1 012\nlook r1";
 
-const ASKED: [(u32, &str, u64); 6] = [
+const ASKED: [(u32, &str, u64); 8] = [
     (0, "propose", 0),
     (1, "retry", 0),
     (0, "cancel", 0),
     (0, "withdraw", 0),
+    (1, "replan", 1),
+    (1, "area", 0),
     (0, "report", 12),
     (0, "look", 0),
 ];
@@ -77,7 +82,7 @@ const FAULTS: [(&str, u32, Code); 8] = [
     ("report zz -1", 8, Code::C6),
     ("report r1 0000000000000001", 8, Code::C6),
     ("propose r1 a r2", 8, Code::C7),
-    ("replan r1 a", 8, Code::C3),
+    ("replan r1 r2", 8, Code::C7),
 ];
 
 #[test]

@@ -2,11 +2,13 @@
 ghost use Rattle.std.specs.Prelude.{◌≡◌, ◌<◌, IfSome};
 ghost use Rattle.fleet_names.specs.Names.{count_of};
 ghost use Rattle.fleet_names.specs.Things.{is_robot, is_cell};
-ghost use Rattle.fleet_commands.specs.UsedNames.{robot_named, cell_named};
+ghost use Rattle.fleet_commands.specs.Commands.{IsDeclaredGoal};
+ghost use Rattle.fleet_commands.specs.UsedNames.{robot_named, cell_named, goal_named};
 
 use fleet_base::numbers::{CellNo, RobotNo};
 use fleet_names::names::Names;
 use fleet_names::thing::Thing;
+use site_map::goal::Goal;
 
 // The robot that a word names.
 pub(crate) fn robot_named(names: &Names, word: &[u8]) -> Option<RobotNo>
@@ -26,6 +28,18 @@ pub(crate) fn cell_named(names: &Names, word: &[u8]) -> Option<CellNo>
 {
     match names.find(word) {
         Some(Thing::Cell(number)) => Some(CellNo(number)),
+        _ => None,
+    }
+}
+
+// The cell or the area that a word names.
+pub(crate) fn goal_named(names: &Names, word: &[u8]) -> Option<Goal>
+    ensures is { result ≡ goal_named names.now word.now }
+    ensures known { IfSome result (IsDeclaredGoal names.now) }
+{
+    match names.find(word) {
+        Some(Thing::Cell(number)) => Some(Goal::Cell(CellNo(number))),
+        Some(Thing::Area(number)) => Some(Goal::Area(number)),
         _ => None,
     }
 }

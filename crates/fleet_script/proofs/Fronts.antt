@@ -1,5 +1,5 @@
 -- The lines of the scenario that a text begins with are within the text.
-use Rattle.std.proofs.Common.{◌≡◌, ℕ, zero, suc, ◌+◌, ◌≤◌, Bool, true, false, if◌then◌else◌, List, [], ◌∷◌, length, Ok, Err, Result, refl, sym, ap, subst, ◌∙◌, arith}
+use Rattle.std.proofs.Common.{◌≡◌, ℕ, zero, suc, ◌+◌, ◌≤◌, Bool, true, false, if◌then◌else◌, List, [], ◌∷◌, length, Ok, Err, Result, refl, ap, subst, arith}
 use Rattle.std.specs.List.{onto_first}
 use Rattle.site_lines.specs.declared.fault.Code.{Code}
 use Rattle.site_lines.specs.Lines.{is_feed, lines_of}

@@ -1,17 +1,15 @@
 -- A script prints a sound journal.
 use Rattle.std.proofs.Common.{◌≡◌, ℕ, List, [], ◌++◌, map, None, refl, sym, ap, subst, ◌∙◌}
 use Rattle.std.proofs.lemmas.List.{append-nil}
-use Rattle.fleet_base.specs.declared.entries.Entry.{Entry}
 use Rattle.fleet_base.specs.declared.limits.TheConstants.{MAX_CAP}
 use Rattle.coordinator.specs.Books.{Book, state_of}
 use Rattle.fleet_commands.specs.Commands.{call_of}
 use Rattle.fleet_commands.specs.declared.command.Command.{Command}
 use Rattle.fleet_model.specs.Calls.{entries_of}
 use Rattle.fleet_model.specs.Good.{IsGood}
-use Rattle.fleet_model.specs.Journals.{IsJournal, state_after}
+use Rattle.fleet_model.specs.Journals.{state_after}
 use Rattle.fleet_model.specs.Replays.{IsLegal, opening as replayed}
 use Rattle.fleet_model.specs.Sites.{IsSite}
-use Rattle.fleet_model.specs.States.{State}
 use Rattle.fleet_model.proofs.GoodStates.{opening_good}
 use Rattle.fleet_model.proofs.Soundness.{journal_sound}
 use Rattle.fleet_model.proofs.Turns.{calls_journal}

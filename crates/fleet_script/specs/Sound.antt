@@ -6,7 +6,6 @@ use Rattle.fleet_model.specs.Journals.{IsJournal, state_after}
 use Rattle.fleet_model.specs.Plans.{Fleet}
 use Rattle.fleet_model.specs.Replays.{IsLegal, opening}
 use Rattle.fleet_model.specs.Sound.{IsSoundJournal}
-use Rattle.fleet_model.specs.States.{State}
 use Rattle.fleet_texts.specs.Answers.{answer_text}
 use Rattle.fleet_texts.specs.StateTexts.{state_text}
 use Rattle.fleet_texts.specs.Texts.{journal_text}

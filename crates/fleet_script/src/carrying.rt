@@ -1,23 +1,26 @@
 // Carrying commands out.
-ghost use Rattle.std.specs.Prelude.{◌≡◌, ◌≢◌, false, OnOk, map};
+ghost use Rattle.std.specs.Prelude.{◌≡◌, ◌≢◌, false, All, OnOk, map};
 ghost use Rattle.fleet_base.specs.declared.answers.ProposeRefused.TheVariants as propose_refused;
 ghost use Rattle.fleet_commands.specs.Commands.{call_of};
-ghost use Rattle.fleet_model.specs.Calls.{Cancel, LookAt, Propose, Report, Retry, Withdraw};
+ghost use Rattle.fleet_model.specs.Calls.{Cancel, LookAt, Propose, Replan, Report, Retry, Withdraw};
 ghost use Rattle.fleet_names.specs.Names.{Named};
-ghost use Rattle.fleet_script.specs.Carried.{AreAnswered, IsAnswered};
+ghost use Rattle.fleet_script.specs.Carried.{AreAnswered, HasGoal, IsAnswered};
+ghost use Rattle.site_map.specs.Goals.{IsGoal, goal_cells};
 
+use crate::goal_cells::goal_set;
 use coordinator::coordinator::Coordinator;
-use fleet_base::answers::{ProposeRefused, RetryRefused};
+use fleet_base::answers::{ProposeRefused, ReplanRefused, RetryRefused};
 use fleet_base::numbers::{EventNo, RobotNo};
 use fleet_base::path::{NoMemory, Path};
 use fleet_commands::command::{Command, Request};
 use fleet_names::names::Names;
 use fleet_texts::answers::{
     push_cancel_refused, push_canceled, push_look, push_propose_refused, push_proposed,
-    push_report_refused, push_reported, push_retry_refused, push_span, push_withdraw_refused,
-    push_withdrawn,
+    push_replan_refused, push_report_refused, push_reported, push_retry_refused, push_span,
+    push_withdraw_refused, push_withdrawn,
 };
 use fleet_texts::pushing::push_text;
+use site_map::goal::Goal;
 
 // Carries commands out, one after the other, and appends a line for each answer.
 pub(crate) fn carry_out(
@@ -26,6 +29,7 @@ pub(crate) fn carry_out(
     fleet: &mut Coordinator,
     commands: &[Command],
 ) -> Result<(), NoMemory>
+    requires { All (λ command. HasGoal fleet.old.site command.request) commands.now }
     ensures { OnOk result (AreAnswered names.now (map (call_of fleet.old.site) commands.now) fleet.old fleet.new text.old.items text.new.items) }
 {
     for command in commands {
@@ -44,6 +48,7 @@ fn answer(
     fleet: &mut Coordinator,
     command: &Command,
 ) -> Result<(), NoMemory>
+    requires { HasGoal fleet.old.site command.now.request }
     ensures { OnOk result (IsAnswered names.now (call_of fleet.old.site command.now).0 (call_of fleet.old.site command.now).1 fleet.old fleet.new text.old.items text.new.items) }
 {
     match &command.request {
@@ -51,6 +56,7 @@ fn answer(
         Request::Retry => retry(text, names, fleet, command.robot),
         Request::Cancel => cancel(text, fleet, command.robot),
         Request::Withdraw => withdraw(text, names, fleet, command.robot),
+        Request::Replan(goal) => replan(text, fleet, command.robot, *goal),
         Request::Report(event) => report(text, fleet, command.robot, *event),
         Request::Look => look(text, names, fleet, command.robot),
     }
@@ -114,6 +120,23 @@ fn withdraw(
     match fleet.withdraw(robot) {
         Ok(withdrawn) => push_withdrawn(text, names, &withdrawn),
         Err(refused) => push_withdraw_refused(text, &refused),
+    }
+}
+
+fn replan(
+    text: &mut Vec<u8>,
+    fleet: &mut Coordinator,
+    robot: RobotNo,
+    goal: Goal,
+) -> Result<(), NoMemory>
+    requires { IsGoal fleet.old.site goal }
+    ensures { (names : Named) → OnOk result (IsAnswered names robot.0 (Replan (goal_cells fleet.old.site goal)) fleet.old fleet.new text.old.items text.new.items) }
+{
+    let cells = goal_set(fleet.site(), goal);
+    match fleet.replan(robot, &cells) {
+        Ok(span) => push_span(text, &span),
+        Err(ReplanRefused::NoMemory) => Err(NoMemory),
+        Err(refused) => push_replan_refused(text, &refused),
     }
 }
 

@@ -5,6 +5,7 @@
 #![tactic(auto)]
 
 mod carrying;
+mod goal_cells;
 mod reading;
 pub mod refused;
 pub mod script;

@@ -1,5 +1,6 @@
 // Reading scripts.
-ghost use Rattle.std.specs.Prelude.{◌^◌, ◌-◌, ◌<◌, length};
+ghost use Rattle.std.specs.Prelude.{◌^◌, ◌-◌, ◌<◌, length, All, IfOk};
+ghost use Rattle.fleet_commands.specs.Commands.{IsDeclared};
 ghost use Rattle.fleet_script.specs.Script.{script_of};
 ghost use Rattle.fleet_script.specs.Stops.{Gives, script_value};
 
@@ -20,7 +21,8 @@ pub(crate) struct Script {
 // The script that a text is.
 pub(crate) fn read_script(alloc: Global, input: &[u8]) -> Result<Script, ScriptRefused>
     requires { length input.now < 2 ^ 32 - 1 }
-    ensures { Gives script_value result (script_of input.now) }
+    ensures is { Gives script_value result (script_of input.now) }
+    ensures declared { IfOk result (λ script. All (IsDeclared script.scenario.names) script.commands.items) }
 {
     let front = read_front(alloc, input)?;
     let names = front.scenario.names();

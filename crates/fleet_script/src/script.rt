@@ -1,6 +1,7 @@
 //! A script: read, carried out and printed.
 
 ghost use Rattle.std.specs.Prelude.{◌≡◌, ◌^◌, ◌-◌, ◌<◌, ◌≤◌, All, IfOk, OnOk, Ok, [], length};
+ghost use Rattle.fleet_commands.specs.Commands.{IsDeclared};
 ghost use Rattle.fleet_script.specs.Script.{ScriptValue, printed, script_of, script_text};
 ghost use Rattle.fleet_script.specs.Sound.{PrintsSoundly};
 ghost use Rattle.fleet_script.specs.Stops.{Gives, script_value};
@@ -36,6 +37,7 @@ pub fn script(alloc: Global, input: &[u8]) -> Result<Vec<u8>, ScriptRefused>
 
 // What a script prints.
 fn run(alloc: Global, script: Script) -> Result<Vec<u8>, NoMemory>
+    requires { All (IsDeclared script.scenario.names) script.commands.items }
     ensures is { IfOk result (λ text. text.items ≡ printed (script_value script)) }
     ensures sound { OnOk result (PrintsSoundly (script_value script) (printed (script_value script))) }
 {

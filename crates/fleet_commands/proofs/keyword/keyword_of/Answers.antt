@@ -17,6 +17,11 @@ returns-in-withdraw c =
     let is : c.args.word.now ≡ codes "withdraw" = text_from_reads c.args.word.now (codes "withdraw") (omega arith) (search rules) in
     rw is refl
 
+pub returns-in-replan : goal.returns-in-replan
+returns-in-replan c =
+    let is : c.args.word.now ≡ codes "replan" = text_from_reads c.args.word.now (codes "replan") (omega arith) (search rules) in
+    rw is refl
+
 pub returns-in-report : goal.returns-in-report
 returns-in-report c =
     let is : c.args.word.now ≡ codes "report" = text_from_reads c.args.word.now (codes "report") (omega arith) (search rules) in

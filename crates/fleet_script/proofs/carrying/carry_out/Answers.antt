@@ -1,11 +1,23 @@
-use Rattle.std.proofs.Common.{◌≡◌, ◌+◌, ◌<◌, drop, get_or, length, List, [], ◌∷◌, sym, ap, ◌∙◌, arith, rules}
+use Rattle.std.proofs.Common.{◌≡◌, ◌+◌, ◌<◌, drop, get_or, length, ℕ, List, [], ◌∷◌, sym, ap, subst, ◌∙◌, arith, rules}
 use Rattle.std.proofs.lemmas.List.{drop_all, drop_more}
 use Rattle.coordinator.specs.Books.{Book}
 use Rattle.fleet_commands.specs.Commands.{call_of}
 use Rattle.fleet_commands.specs.declared.command.Command.{Command}
+use Rattle.fleet_model.specs.States.{State}
+use Rattle.fleet_script.specs.Carried.{HasGoal}
 use Rattle.fleet_script.proofs.Answering.{reaches}
 use Rattle.fleet_script.proofs.Endings.{all_carried, carried, in_the_end}
 use Rattle.fleet_script.proofs.carrying.carry_out.Goals as goal
+
+pub answer-requires : goal.answer-requires
+answer-requires c =
+    let commands : List Command = c.args.commands.now in
+    let i = c.loop-command.command-index in
+    let command : Command = c.command-item.result in
+    let here : get_or commands i command ≡ command = search rules in
+    let site : c.loop-command.fleet.site ≡ c.args.fleet.now.site = ap (λ (t : List ℕ × Book × State). t.1.site) c.loop-command.invariant in
+    subst (λ s. HasGoal s command.request) (sym site)
+    (subst (λ (k : Command). HasGoal c.args.fleet.now.site k.request) here (c.requires i command c.loop-command-test.true))
 
 pub loop-command-preserved : goal.loop-command-preserved
 loop-command-preserved c =

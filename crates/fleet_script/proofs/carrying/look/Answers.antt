@@ -1,7 +1,7 @@
-use Rattle.std.proofs.Common.{◌≡◌, Err, refl, sym, ap}
+use Rattle.std.proofs.Common.{Err, refl, sym, ap}
 use Rattle.std.proofs.lemmas.Result.{on_ok_weaker}
 use Rattle.coordinator.specs.Books.{state_of}
-use Rattle.fleet_model.specs.Calls.{LookAt, Looks, look}
+use Rattle.fleet_model.specs.Calls.{LookAt, Looks}
 use Rattle.fleet_script.proofs.Refusing.{look_adds_nothing, refused_call}
 use Rattle.fleet_script.proofs.carrying.look.Goals as goal
 

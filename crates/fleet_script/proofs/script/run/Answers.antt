@@ -1,18 +1,30 @@
-use Rattle.std.proofs.Common.{◌≡◌, ℕ, List, [], ◌++◌, map, ap, subst, sym, ◌∙◌}
+use Rattle.std.proofs.Common.{◌≡◌, ℕ, List, [], ◌++◌, length, map, All, ap, subst, sym, ◌∙◌}
 use Rattle.coordinator.specs.Books.{Book}
-use Rattle.fleet_commands.specs.Commands.{call_of}
+use Rattle.fleet_commands.specs.Commands.{IsDeclared, call_of}
 use Rattle.fleet_commands.specs.declared.command.Command.{Command}
 use Rattle.fleet_model.specs.Sites.{IsSite}
 use Rattle.scenario.specs.Parts.{parts_value}
-use Rattle.scenario.specs.Scenarios.{ScenarioValue}
+use Rattle.scenario.specs.Scenarios.{IsScenario, ScenarioValue}
 use Rattle.site_map.specs.Built.{BuiltSite}
 use Rattle.site_map.specs.Claims.{site_of}
 use Rattle.fleet_texts.specs.Texts.{journal_text}
-use Rattle.fleet_script.specs.Carried.{AreAnswered}
-use Rattle.fleet_script.specs.Script.{ScriptValue, printed}
+use Rattle.fleet_script.specs.Carried.{AreAnswered, HasGoal}
+use Rattle.fleet_script.specs.Script.{printed}
 use Rattle.fleet_script.specs.Stops.{script_value}
+use Rattle.fleet_script.proofs.Goals.{goals_are}
 use Rattle.fleet_script.proofs.Runs.{opened, prints_soundly, whole_is}
 use Rattle.fleet_script.proofs.script.run.Goals as goal
+
+pub carry_out-requires : goal.carry_out-requires
+carry_out-requires c =
+    let scenario : ScenarioValue = parts_value c.into_parts-site.result in
+    let commands : List Command = c.deref.result.now in
+    let declared : All (IsDeclared scenario.names) commands =
+    subst (λ (cs : List Command). All (IsDeclared scenario.names) cs) (sym c.deref.ensures.value)
+    (subst (λ (s : ScenarioValue). All (IsDeclared s.names) c.args.script.commands.items) (sym c.into_parts-site.ensures.is) c.requires) in
+    let named = subst (λ (s : ScenarioValue). IsScenario s) (sym c.into_parts-site.ensures.is) c.into_parts-site.ensures.scenario in
+    subst (λ (b : Book). All (λ (command : Command). HasGoal b.site command.request) commands) (sym c.in_ok-fleet.ensures)
+    (goals_are scenario.names scenario.site (length scenario.starts) named.named commands declared)
 
 pub returns-clause-is : goal.returns-clause-is
 returns-clause-is c =
