@@ -330,7 +330,7 @@ def front(text):
 
 # script
 
-COMMANDS = {b"propose": "rc+", b"retry": "r", b"cancel": "r", b"withdraw": "r", b"report": "rd", b"look": "r"}
+COMMANDS = {b"propose": "rc+", b"retry": "r", b"cancel": "r", b"withdraw": "r", b"replan": "rg", b"report": "rd", b"look": "r"}
 KINDS = {"r": ("robot",), "c": ("cell",), "g": ("cell", "area")}
 
 

@@ -1,14 +1,20 @@
 -- What a run says of its status, for any form.
-use Rattle.std.proofs.Common.{if◌then◌else◌, ◌≡◌, ℕ, Bool, true, false, List, [], Option, Some, None, Ok, Err, Result, refl, sym, ap, ◌∙◌, ltb-true, arith}
+use Rattle.std.proofs.Common.{if◌then◌else◌, ◌≡◌, ℕ, ◌+◌, Bool, true, false, List, [], Option, Some, None, Ok, Err, Result, refl, sym, ap, ◌∙◌, ltb-true, arith}
 use Rattle.std.specs.Prelude.{nat_lt, length}
 use Rattle.fleet_cli.specs.declared.output.Ended.{Ended}
 use Rattle.fleet_cli.specs.declared.output.Ended.TheVariants.{Done}
 use Rattle.fleet_cli.specs.declared.fault.Fault.{Fault}
-use Rattle.fleet_cli.specs.declared.fault.Fault.TheVariants.{Line, TooBig}
+use Rattle.fleet_cli.specs.declared.fault.Fault.TheVariants.{Line, TooBig, Entry, UnknownFrom, UnknownTo}
 use Rattle.scenario.specs.Tables.{mapped}
 use Rattle.site_lines.specs.declared.fault.At.{At}
-use Rattle.fleet_script.specs.Script.{ScriptValue, printed, script_of}
-use Rattle.fleet_cli.specs.Forms.{Form, Script, limit_of}
+use Rattle.site_lines.specs.declared.fault.Code.TheVariants.{T1}
+use Rattle.fleet_replay.specs.Replay.{ReplayValue, printed_or, reached_text, replay_of, unless_differs, with_tail}
+use Rattle.fleet_replay.specs.Tails.{differing_line, is_tail}
+use Rattle.fleet_replay.specs.declared.refused.ReplayFault.TheVariants as replay_fault
+use Rattle.fleet_script.specs.Script.{ScriptValue, opening_of, printed, script_of}
+use Rattle.journal_replay.specs.Differing.{first_differing}
+use Rattle.fleet_cli.specs.Forms.{Form, Replay, Script, limit_of}
+use Rattle.fleet_cli.specs.Replay.{TellsReplay, or_fault}
 use Rattle.fleet_cli.specs.Script.{TellsScript, or_line}
 use Rattle.fleet_cli.specs.Outputs.{Due, Holds, Report, done, output_of, output_within, reply_for, due_of, status_of}
 use Rattle.fleet_cli.specs.Refusals.{HasFault, TellsFault}
@@ -35,6 +41,9 @@ big form limit input reads is = rw reads (ltb-true _ _ is)
 by_size : (form : Form) (limit : ℕ) (input : List ℕ) (over : Bool) → limit_of form ≡ Some limit → nat_lt limit (length input) ≡ over → (fault : Fault) → (if over then Err TooBig else output_of form input) ≡ Err fault → HasFault form input fault
 by_size form limit input true reads is TooBig e = big form limit input reads is
 by_size form limit input true reads is (Line at) e = absurd (cc)
+by_size form limit input true reads is UnknownFrom e = absurd (cc)
+by_size form limit input true reads is UnknownTo e = absurd (cc)
+by_size form limit input true reads is (Entry entry) e = absurd (cc)
 by_size form limit input false reads is fault e = in_output form input fault e
 
 by_limit : (form : Form) (limit : Option ℕ) (input : List ℕ) → limit_of form ≡ limit → (fault : Fault) → output_within limit form input ≡ Err fault → HasFault form input fault
@@ -54,22 +63,60 @@ printed_of : (r : Result ScriptValue At) (status : ℕ) (text : List ℕ) → st
 printed_of (Ok script) status text is zero told = (script, refl, told)
 printed_of (Err at) status text is zero told = absurd (omega (arith, is, zero))
 
-within : (input : List ℕ) (over : Bool) (status : ℕ) → status ≡ (reply_for (if over then Err TooBig else output_of Script input)).status → status ≡ 0
-    → (reply_for (if over then Err TooBig else output_of Script input)) ≡ reply_for (output_of Script input)
-within input true status is zero = absurd (omega (arith, is, zero))
-within input false status is zero = refl
+-- a form that ended with status 0 had an input within its limit
+within : (output : Result Report Fault) (over : Bool) (status : ℕ) → status ≡ (reply_for (if over then Err TooBig else output)).status → status ≡ 0 → (reply_for (if over then Err TooBig else output)) ≡ reply_for output
+within output true status is zero = absurd (omega (arith, is, zero))
+within output false status is zero = refl
 
 pub sound : (words : Option Form) (status : ℕ) (left left' written written' : Option (List ℕ)) (input : List ℕ) → words ≡ Some Script → left ≡ Some input → status ≡ 0 → Runs words status left left' written written' → TellsScript input written written'
 sound words status left left' written written' input asked is zero run =
     let tells : Tells (due_of (Some Script) input) status written written' = rw asked at (told words status left left' written written' input is run) in
     let whole = tells.whole (omega (arith, zero)) in
     let same : input ≡ run.input = rw is at run.is in
-    let fits = within input (nat_lt 4194304 (length input)) status whole.0 zero in
+    let fits = within (output_of Script input) (nat_lt 4194304 (length input)) status whole.0 zero in
     let from = printed_of (script_of input) status (due_of (Some Script) input).text (whole.0 ∙ ap (λ (d : Due). d.status) fits) zero (ap (λ (d : Due). d.text) fits) in
     let holds : Holds (Some Script) run.input = rw asked at (run.holds zero) in
     record {
       script = from.0;
       is = from.1;
       sound = holds from.0 (ap script_of (sym same) ∙ from.1);
+      told = rw from.2 at whole.1;
+    }
+
+-- what a replay printed
+module _ (replay : ReplayValue) where
+  abbrev state : List ℕ
+  state = reached_text replay.scenario replay.entries
+
+  abbrev due_with : Option ℕ → Due
+  due_with o = reply_for (done (or_fault (with_tail replay (unless_differs o state))))
+
+  by_tail : (good : Bool) (status : ℕ) (text : List ℕ)
+      → (let r : Result (List ℕ) Fault = or_fault (if good then Ok state else Err (replay_fault.Line (record { line = replay.lines + differing_line replay.tail state; code = T1 }))) in (status ≡ (reply_for (done r)).status) × (text ≡ (reply_for (done r)).text))
+      → status ≡ 0 → text ≡ state
+  by_tail true status text is zero = is.1
+  by_tail false status text is zero = let refused = is.0 in absurd (omega (arith, refused, zero))
+
+  by_first : (o : Option ℕ) (status : ℕ) (text : List ℕ) → status ≡ (due_with o).status → status ≡ 0 → text ≡ (due_with o).text → text ≡ state
+  by_first (Some n) status text is zero told = absurd (omega (arith, is, zero))
+  by_first None status text is zero told = by_tail (is_tail state replay.tail) status text (is, told) zero
+
+replayed_of : (r : Result ReplayValue At) (status : ℕ) (text : List ℕ) → status ≡ (reply_for (done (or_fault (printed_or r)))).status → status ≡ 0 → text ≡ (reply_for (done (or_fault (printed_or r)))).text
+    → (replay : ReplayValue) × (r ≡ Ok replay) × (text ≡ reached_text replay.scenario replay.entries)
+replayed_of (Ok replay) status text is zero told = (replay, refl, by_first replay (first_differing (opening_of replay.scenario) replay.entries) status text is zero told)
+replayed_of (Err at) status text is zero told = absurd (omega (arith, is, zero))
+
+pub replayed : (words : Option Form) (status : ℕ) (left left' written written' : Option (List ℕ)) (input : List ℕ) → words ≡ Some Replay → left ≡ Some input → status ≡ 0 → Runs words status left left' written written' → TellsReplay input written written'
+replayed words status left left' written written' input asked is zero run =
+    let tells : Tells (due_of (Some Replay) input) status written written' = rw asked at (told words status left left' written written' input is run) in
+    let whole = tells.whole (omega (arith, zero)) in
+    let same : input ≡ run.input = rw is at run.is in
+    let fits = within (output_of Replay input) (nat_lt 67108864 (length input)) status whole.0 zero in
+    let from = replayed_of (replay_of input) status (due_of (Some Replay) input).text (whole.0 ∙ ap (λ (d : Due). d.status) fits) zero (ap (λ (d : Due). d.text) fits) in
+    let holds : Holds (Some Replay) run.input = rw asked at (run.holds zero) in
+    record {
+      replay = from.0;
+      is = from.1;
+      run = holds from.0 (ap replay_of (sym same) ∙ from.1);
       told = rw from.2 at whole.1;
     }

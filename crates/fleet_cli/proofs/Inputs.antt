@@ -6,7 +6,7 @@ use Rattle.std.proofs.lemmas.List.{append-nil}
 use Rattle.fleet_io.specs.Bytes.{TakesJust}
 use Rattle.fleet_cli.specs.declared.fault.Fault.TheVariants.{TooBig}
 use Rattle.fleet_cli.specs.Forms.{Form, limit_of}
-use Rattle.fleet_cli.specs.Outputs.{Due, Holds, HoldsFor, due_of, reply_for, output_of}
+use Rattle.fleet_cli.specs.Outputs.{Due, HoldsFor, due_of, reply_for, output_of}
 use Rattle.fleet_cli.specs.Runs.{IsReady}
 use Rattle.fleet_cli.proofs.FormFaults.{unread_holds}
 

@@ -9,20 +9,33 @@ use Rattle.fleet_cli.specs.declared.form.Form.TheVariants as variants
 -- what the words ask for
 pub data Form : Type 0 where
   Check : Form
+  Route : List ℕ → List ℕ → Form
   Script : Form
+  Replay : Form
 
 -- a form without where its words lie in memory
 abbrev pub form_view : declared.Form → Form
 form_view variants.Check = Check
+form_view (variants.Route from to) = Route from.now to.now
 form_view variants.Script = Script
+form_view variants.Replay = Replay
 
 -- the form that one word is
 abbrev pub one_word : List ℕ → Option Form
-one_word word = if bytes_eq word (codes "check") then Some Check else (if bytes_eq word (codes "script") then Some Script else None)
+one_word word =
+    if bytes_eq word (codes "check") then Some Check
+    else (if bytes_eq word (codes "script") then Some Script
+    else (if bytes_eq word (codes "replay") then Some Replay
+    else None))
+
+-- the form that three words are: `route FROM TO`, where the last two may be any words
+abbrev pub three_words : List ℕ → List ℕ → List ℕ → Option Form
+three_words word from to = if bytes_eq word (codes "route") then Some (Route from to) else None
 
 -- the form that the words are, if they are one
 abbrev pub form_of : List (List ℕ) → Option Form
 form_of (word ∷ []) = one_word word
+form_of (word ∷ from ∷ to ∷ []) = three_words word from to
 form_of words = None
 
 -- the form that the words of a call are, if they are one
@@ -31,9 +44,11 @@ form_asked words = form_of (map (λ word. word.now) words)
 
 -- what is written where the words are no form
 abbrev pub usage_text : List ℕ
-usage_text = codes "usage: fleet check | script\n"
+usage_text = codes "usage: fleet check | route FROM TO | script | replay\n"
 
 -- the most bytes of input that a form takes; None where it reads nothing
 abbrev pub limit_of : Form → Option ℕ
 limit_of Check = Some 4194304
+limit_of (Route from to) = Some 4194304
 limit_of Script = Some 4194304
+limit_of Replay = Some 67108864

@@ -4,13 +4,15 @@ use Rattle.std.specs.declared.option.Option.{Option}
 use Rattle.std.specs.Fmt.{decimal}
 use Rattle.site_lines.specs.Codes.{code_text}
 use Rattle.fleet_cli.specs.declared.fault.Fault.{Fault}
-use Rattle.fleet_cli.specs.declared.fault.Fault.TheVariants.{Line, TooBig}
+use Rattle.fleet_cli.specs.declared.fault.Fault.TheVariants.{Line, TooBig, Entry, UnknownFrom, UnknownTo}
 use Rattle.fleet_cli.specs.declared.output.Ended.{Ended}
 use Rattle.fleet_cli.specs.declared.output.Ended.TheVariants.{Done}
 use Rattle.fleet_cli.specs.declared.output.Report as declared
 use Rattle.fleet_cli.specs.declared.reply.Reply.{Reply}
-use Rattle.fleet_cli.specs.Forms.{Form, Check, Script, limit_of, usage_text}
+use Rattle.fleet_cli.specs.Forms.{Form, Check, Route, Script, Replay, limit_of, usage_text}
 use Rattle.fleet_cli.specs.Check.{check_text}
+use Rattle.fleet_cli.specs.Replay.{IsSoundReplay, replayed_or}
+use Rattle.fleet_cli.specs.Route.{route_or}
 use Rattle.fleet_cli.specs.Script.{IsSoundScript, printed_or}
 
 -- how a form ended, and its text
@@ -38,6 +40,9 @@ status_of Done = 0
 abbrev pub refused_text : Fault → List ℕ
 refused_text (Line at) = codes "refused line " ++ decimal at.line ++ codes " " ++ code_text at.code ++ codes "\n"
 refused_text TooBig = codes "refused too big\n"
+refused_text UnknownFrom = codes "refused from\n"
+refused_text UnknownTo = codes "refused to\n"
+refused_text (Entry entry) = codes "refused entry " ++ decimal entry ++ codes "\n"
 
 -- a form that gave its text is done
 abbrev pub done : Result (List ℕ) Fault → Result Report Fault
@@ -47,12 +52,16 @@ done (Err fault) = Err fault
 -- what a form makes of an input within its limit
 abbrev pub output_of : Form → List ℕ → Result Report Fault
 output_of Check input = done (check_text input)
+output_of (Route from to) input = done (route_or from to input)
 output_of Script input = done (printed_or input)
+output_of Replay input = done (replayed_or input)
 
 -- what is known of an input for which a form gave its text
 abbrev pub HoldsFor : Form → List ℕ → Type 0
 HoldsFor Check input = Unit {0}
+HoldsFor (Route from to) input = Unit {0}
 HoldsFor Script input = IsSoundScript input
+HoldsFor Replay input = IsSoundReplay input
 
 abbrev pub Holds : Option Form → List ℕ → Type 0
 Holds None input = Unit {0}

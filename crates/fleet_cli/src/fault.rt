@@ -1,9 +1,11 @@
 // Why an input isn't accepted, and why a form gives no text.
 ghost use Rattle.std.specs.Prelude.{◌≡◌};
-ghost use Rattle.fleet_cli.specs.Stops.{of_script, stop_of};
+ghost use Rattle.fleet_cli.specs.Stops.{of_replay, of_route, of_script, stop_of};
 ghost use Rattle.fleet_cli.specs.declared.fault.Stop.TheVariants.{NoMemory as OutOfMemory};
 
 use fleet_base::path::NoMemory;
+use fleet_replay::refused::{ReplayFault, TextRefused};
+use fleet_route::refused::{Refusal, Untold};
 use fleet_script::refused::ScriptRefused;
 use scenario::stop::ReadRefused;
 use site_lines::fault::At;
@@ -15,6 +17,13 @@ pub enum Fault {
     Line(At),
     /// It has more bytes than the limit of the form.
     TooBig,
+    /// `route`: the second word isn't the name of a cell.
+    UnknownFrom,
+    /// `route`: the third word isn't the name of a cell or an area.
+    UnknownTo,
+    /// The first entry, from 1, of its journal that isn't one of an accepted call with just this
+    /// answer.
+    Entry(u32),
 }
 
 // Why a form gives no text.
@@ -45,6 +54,19 @@ impl From<ReadRefused> for Stop {
     }
 }
 
+impl From<Untold> for Stop {
+    ghost from_gives = { λ untold stop. stop ≡ of_route untold };
+
+    fn from(untold: Untold) -> Stop {
+        match untold {
+            Untold::Refused(Refusal::Line(at)) => Stop::Refused(Fault::Line(at)),
+            Untold::Refused(Refusal::UnknownFrom) => Stop::Refused(Fault::UnknownFrom),
+            Untold::Refused(Refusal::UnknownTo) => Stop::Refused(Fault::UnknownTo),
+            Untold::NoMemory => Stop::NoMemory,
+        }
+    }
+}
+
 impl From<ScriptRefused> for Stop {
     ghost from_gives = { λ refused stop. stop ≡ of_script refused };
 
@@ -52,6 +74,18 @@ impl From<ScriptRefused> for Stop {
         match refused {
             ScriptRefused::Bad(at) => Stop::Refused(Fault::Line(at)),
             ScriptRefused::NoMemory => Stop::NoMemory,
+        }
+    }
+}
+
+impl From<TextRefused> for Stop {
+    ghost from_gives = { λ refused stop. stop ≡ of_replay refused };
+
+    fn from(refused: TextRefused) -> Stop {
+        match refused {
+            TextRefused::Fault(ReplayFault::Line(at)) => Stop::Refused(Fault::Line(at)),
+            TextRefused::Fault(ReplayFault::Entry(entry)) => Stop::Refused(Fault::Entry(entry)),
+            TextRefused::NoMemory => Stop::NoMemory,
         }
     }
 }

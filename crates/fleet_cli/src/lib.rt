@@ -5,11 +5,13 @@
 //! text in memory and writes it.
 #![tactic(auto)]
 
+mod asked;
 mod check;
 mod commanded;
 mod fault;
 mod form;
 mod output;
+mod replayed;
 mod reply;
 #[cfg(test)]
 mod tests;

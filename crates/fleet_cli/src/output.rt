@@ -4,10 +4,12 @@ ghost use Rattle.fleet_cli.specs.Forms.{form_view};
 ghost use Rattle.fleet_cli.specs.Outputs.{HoldsFor, output_of, report_view, status_of};
 ghost use Rattle.fleet_cli.specs.Stops.{Gives};
 
+use crate::asked::tell_route;
 use crate::check::check;
 use crate::commanded::carry_out;
 use crate::fault::Stop;
 use crate::form::Form;
+use crate::replayed::replay;
 use std::alloc::Global;
 
 /// How a form ended that gave its text.
@@ -36,14 +38,16 @@ pub(crate) struct Report {
 }
 
 // What a form makes of an input within its limit.
-pub(crate) fn output(alloc: Global, form: Form, input: &[u8]) -> Result<Report, Stop>
+pub(crate) fn output(alloc: Global, form: Form<'_>, input: &[u8]) -> Result<Report, Stop>
     requires { length input.now < 2 ^ 32 - 1 }
-    ensures is { Gives report_view result (output_of (form_view form) input.now) }
-    ensures holds { OnOk result (HoldsFor (form_view form) input.now) }
+    ensures is { Gives report_view result (output_of (form_view form.entry) input.now) }
+    ensures holds { OnOk result (HoldsFor (form_view form.entry) input.now) }
 {
     match form {
         Form::Check => Ok(done(check(alloc, input)?)),
+        Form::Route { from, to } => Ok(done(tell_route(alloc, from, to, input)?)),
         Form::Script => Ok(done(carry_out(alloc, input)?)),
+        Form::Replay => Ok(done(replay(alloc, input)?)),
     }
 }
 

@@ -56,9 +56,9 @@ pub(crate) fn ready<S: Source>(
 }
 
 // The reply to a form.
-fn reply_to<S: Source>(alloc: Global, form: Form, source: &mut S) -> Result<Reply, NoReply>
+fn reply_to<S: Source>(alloc: Global, form: Form<'_>, source: &mut S) -> Result<Reply, NoReply>
     ensures due { IfOk result (λ reply.
-        IsReady (Some (form_view form)) (S.left source.old) (S.left source.new) (reply_view reply)) }
+        IsReady (Some (form_view form.entry)) (S.left source.old) (S.left source.new) (reply_view reply)) }
     ensures fault { IsErrOf result NoReply.ReadFault → Rose (S.faults source.old) (S.faults source.new) }
 {
     let Some(limit) = form.limit() else {
@@ -73,10 +73,10 @@ fn reply_to<S: Source>(alloc: Global, form: Form, source: &mut S) -> Result<Repl
 }
 
 // The reply to a form with an input within its limit.
-fn reply_of(alloc: Global, form: Form, input: &[u8]) -> Result<Reply, NoMemory>
+fn reply_of(alloc: Global, form: Form<'_>, input: &[u8]) -> Result<Reply, NoMemory>
     requires { length input.now < 2 ^ 32 - 1 }
-    ensures is { IfOk result (λ reply. reply_view reply ≡ reply_for (output_of (form_view form) input.now)) }
-    ensures holds { IfOk result (λ reply. reply.status ≡ 0 → HoldsFor (form_view form) input.now) }
+    ensures is { IfOk result (λ reply. reply_view reply ≡ reply_for (output_of (form_view form.entry) input.now)) }
+    ensures holds { IfOk result (λ reply. reply.status ≡ 0 → HoldsFor (form_view form.entry) input.now) }
 {
     match output(alloc, form, input) {
         Ok(Report { ended, text }) => Ok(Reply {
@@ -102,6 +102,13 @@ fn refusal(alloc: Global, fault: Fault) -> Result<Reply, NoMemory>
             push_bytes(&mut text, b"\n")?;
         }
         Fault::TooBig => push_bytes(&mut text, b"refused too big\n")?,
+        Fault::UnknownFrom => push_bytes(&mut text, b"refused from\n")?,
+        Fault::UnknownTo => push_bytes(&mut text, b"refused to\n")?,
+        Fault::Entry(entry) => {
+            push_bytes(&mut text, b"refused entry ")?;
+            push_number(&mut text, u64::from(entry))?;
+            push_bytes(&mut text, b"\n")?;
+        }
     }
     Ok(Reply { status: 3, text })
 }
@@ -111,6 +118,9 @@ fn usage(alloc: Global) -> Result<Reply, NoMemory>
     ensures { IfOk result (λ reply. reply_view reply ≡ record { status = 2; text = usage_text }) }
 {
     let mut text = Vec::new(alloc);
-    push_bytes(&mut text, b"usage: fleet check | script\n")?;
+    push_bytes(
+        &mut text,
+        b"usage: fleet check | route FROM TO | script | replay\n",
+    )?;
     Ok(Reply { status: 2, text })
 }

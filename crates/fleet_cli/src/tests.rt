@@ -3,13 +3,13 @@ use crate::fleet;
 use fleet_io::{MemSink, MemSource, SureSink, SureSource};
 use std::test::Fail;
 
-const USAGE: &[u8] = b"usage: fleet check | script\n";
+const USAGE: &[u8] = b"usage: fleet check | route FROM TO | script | replay\n";
 
 const ONE_STEP: &[u8] = b"fleet 1\ncell a b\nlane a b 1\nrobot r1 a\nend\npropose r1 a b\n";
 
 #[test]
 fn words_that_are_no_form_are_told_the_usage(rt: HostRuntime) -> Result<(), Fail> {
-    let rows: [&[&str]; 5] = [&[], &["check", "now"], &["Check"], &["--help"], &[""]];
+    let rows: [&[&str]; 5] = [&[], &["check", "now"], &["Check"], &["route", "a"], &[""]];
     for words in rows {
         let mut source = SureSource::new(b"fleet 1\n".to_vec(rt.alloc())?, 3);
         let mut sink = SureSink::new(rt.alloc(), 5);
@@ -57,6 +57,59 @@ robot r1 at a end b\nholds a\nevent 1 acquire b\nevent 2 move a b\nevent 3 relea
         ),
     ];
     let words: &[&str] = &["script"];
+    for (input, status, text) in rows {
+        let mut source = SureSource::new(input.to_vec(rt.alloc())?, 3);
+        let mut sink = SureSink::new(rt.alloc(), 5);
+        assert_eq!(rt; fleet(rt.alloc(), words, &mut source, &mut sink), status);
+        assert!(rt; sink.written() == text);
+    }
+    Ok(())
+}
+
+#[test]
+fn route_tells_a_least_route_or_the_fault(rt: HostRuntime) -> Result<(), Fail> {
+    let rows: [(&str, &str, u8, &[u8]); 4] = [
+        ("a", "b", 0, b"route 1 a b\nlabel a 1\nlabel b 0\n"),
+        ("b", "a", 0, b"unreachable\n"),
+        ("r1", "r1", 3, b"refused from\n"),
+        ("a", "r1", 3, b"refused to\n"),
+    ];
+    for (from, to, status, text) in rows {
+        let words: &[&str] = &["route", from, to];
+        let input = b"fleet 1\ncell a b\nlink a b 1\nrobot r1 a\nend\n";
+        let mut source = SureSource::new(input.to_vec(rt.alloc())?, 3);
+        let mut sink = SureSink::new(rt.alloc(), 5);
+        assert_eq!(rt; fleet(rt.alloc(), words, &mut source, &mut sink), status);
+        assert!(rt; sink.written() == text);
+    }
+    Ok(())
+}
+
+#[test]
+fn replay_tells_the_state_or_the_fault(rt: HostRuntime) -> Result<(), Fail> {
+    let rows: [(&[u8], u8, &[u8]); 4] = [
+        (
+            b"fleet 1\ncell a b\nlane a b 1\nrobot r1 a\nend\njournal 1\nend\n",
+            0,
+            b"state 1\nentries 0\nnext 1\nrobot r1 at a end a\nholds a\nend\n",
+        ),
+        (
+            b"fleet 1\ncell a b\nlane a b 1\nrobot r1 a\nend\njournal 1\ncanceled r1\nend\n",
+            3,
+            b"refused entry 1\n",
+        ),
+        (
+            b"fleet 1\ncell a\nrobot r1 a\nend\njournal 1\nend",
+            3,
+            b"refused line 6 J9\n",
+        ),
+        (
+            b"fleet 1\ncell a\nrobot r1 a\nend\njournal 1\nend\nstate 2\n",
+            3,
+            b"refused line 7 T1\n",
+        ),
+    ];
+    let words: &[&str] = &["replay"];
     for (input, status, text) in rows {
         let mut source = SureSource::new(input.to_vec(rt.alloc())?, 3);
         let mut sink = SureSink::new(rt.alloc(), 5);

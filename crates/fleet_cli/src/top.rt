@@ -3,10 +3,11 @@ ghost use Rattle.std.specs.Prelude.{◌≡◌, ◌≢◌, ◌≤◌, ◌⊎◌, 
 ghost use Rattle.std.specs.Io.KnownBytes.{Keeps};
 ghost use Rattle.fleet_io.specs.Causes.{Rose};
 ghost use Rattle.fleet_io.specs.Bytes.{Stays};
-ghost use Rattle.fleet_cli.specs.Forms.{Form, Script, form_asked};
+ghost use Rattle.fleet_cli.specs.Forms.{Form, Replay, Script, form_asked};
 ghost use Rattle.fleet_cli.specs.Outputs.{due_of};
 ghost use Rattle.fleet_cli.specs.Runs.{Tells, IsWhole, Runs};
 ghost use Rattle.fleet_cli.specs.Refusals.{TellsFault};
+ghost use Rattle.fleet_cli.specs.Replay.{TellsReplay};
 ghost use Rattle.fleet_cli.specs.Script.{TellsScript};
 
 use crate::reply::{NoReply, ready};
@@ -21,7 +22,7 @@ use std::alloc::Global;
 /// | 0 | the form gave its text | that text |
 /// | 1 | memory was short, which no contract can tell | nothing |
 /// | 2 | the words are no form | the usage line |
-/// | 3 | the input isn't accepted | the line of its fault |
+/// | 3 | the input isn't accepted, or a word of `route` names nothing fitting in it | the line of its fault |
 /// | 5 | a read failed | nothing |
 /// | 6 | a write failed | a prefix of the text that was due |
 pub fn fleet<S: Source, K: Sink>(alloc: Global, words: &[&str], source: &mut S, sink: &mut K) -> u8
@@ -59,6 +60,13 @@ pub fn fleet<S: Source, K: Sink>(alloc: Global, words: &[&str], source: &mut S, 
     ensures sound { (input : List ℕ) → form_asked words.now ≡ Some Script →
         S.left source.old ≡ Some input → result ≡ 0 →
         TellsScript input (K.written sink.old) (K.written sink.new) }
+
+    // Status 0 of `replay`: the journal behind the scenario is legal from the opening state and
+    // sound at each of its places, what it reports is a legal replay, and what went out is the
+    // text of the state that it reaches.
+    ensures replayed { (input : List ℕ) → form_asked words.now ≡ Some Replay →
+        S.left source.old ≡ Some input → result ≡ 0 →
+        TellsReplay input (K.written sink.old) (K.written sink.new) }
 
     // Want of memory and a fault of the source write nothing.
     ensures silent { (result ≡ 1) ⊎ (result ≡ 5) → Stays (K.written sink.old) (K.written sink.new) }

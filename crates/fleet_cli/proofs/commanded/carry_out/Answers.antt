@@ -1,4 +1,4 @@
-use Rattle.std.proofs.Common.{◌≡◌, subst}
+use Rattle.std.proofs.Common.{subst}
 use Rattle.fleet_script.specs.Sound.{PrintsSoundly}
 use Rattle.fleet_cli.proofs.Scripts.{text_is}
 use Rattle.fleet_cli.proofs.commanded.carry_out.Goals as goal

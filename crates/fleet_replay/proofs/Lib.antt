@@ -1,0 +1,5 @@
+pub mod Again
+pub mod Journals
+pub mod Lines
+pub mod Runs
+pub mod Stops

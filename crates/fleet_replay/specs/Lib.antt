@@ -1,0 +1,5 @@
+pub mod Printed
+pub mod Replay
+pub mod Sound
+pub mod Stops
+pub mod Tails

@@ -1,0 +1,70 @@
+//! Why a text isn't replayed.
+
+ghost use Rattle.std.specs.Prelude.{◌≡◌};
+ghost use Rattle.fleet_replay.specs.Stops.{of_replay, of_scenario};
+ghost use Rattle.fleet_replay.specs.declared.refused.ReplayFault.TheVariants.{Line};
+ghost use Rattle.fleet_replay.specs.declared.refused.TextRefused.TheVariants.{Fault, NoMemory as OutOfMemory};
+
+use fleet_base::path::NoMemory;
+use journal_replay::refused::ReplayRefused;
+use scenario::stop::ReadRefused;
+use site_lines::fault::At;
+
+/// What is wrong with a text that isn't replayed.
+#[derive(Clone, Copy, Debug, PartialEq, Eq)]
+pub enum ReplayFault {
+    /// This is its first bad line, with the line's least code: of the scenario or of the journal, or
+    /// with `T1` the first line in which what stands behind them differs from the state's text.
+    Line(At),
+    /// This is the number, from 1, of the first entry that isn't one of an accepted call with just
+    /// this answer.
+    Entry(u32),
+}
+
+/// Why a text isn't replayed.
+#[derive(Clone, Copy, Debug, PartialEq, Eq)]
+pub enum TextRefused {
+    /// The text has this fault.
+    Fault(ReplayFault),
+    /// No memory was left.
+    NoMemory,
+}
+
+impl From<ReadRefused> for TextRefused {
+    ghost from_gives = { λ cause refused. refused ≡ of_scenario cause };
+
+    fn from(cause: ReadRefused) -> Self {
+        match cause {
+            ReadRefused::Bad(at) => TextRefused::Fault(ReplayFault::Line(at)),
+            ReadRefused::NoMemory => TextRefused::NoMemory,
+        }
+    }
+}
+
+// The starts of a scenario are some and don't conflict, so where they are refused memory lacks.
+impl From<ReplayRefused> for TextRefused {
+    ghost from_gives = { λ cause refused. refused ≡ of_replay cause };
+
+    fn from(cause: ReplayRefused) -> Self {
+        match cause {
+            ReplayRefused::Differs { entry } => TextRefused::Fault(ReplayFault::Entry(entry)),
+            ReplayRefused::New(_) | ReplayRefused::NoMemory => TextRefused::NoMemory,
+        }
+    }
+}
+
+impl From<At> for TextRefused {
+    ghost from_gives = { λ at refused. refused ≡ Fault (Line at) };
+
+    fn from(at: At) -> Self {
+        TextRefused::Fault(ReplayFault::Line(at))
+    }
+}
+
+impl From<NoMemory> for TextRefused {
+    ghost from_gives = { λ _ refused. refused ≡ OutOfMemory };
+
+    fn from(_error: NoMemory) -> Self {
+        TextRefused::NoMemory
+    }
+}

@@ -1,0 +1,52 @@
+-- The entries that were replayed so far.
+use Rattle.std.proofs.Common.{◌≡◌, ℕ, ◌+◌, ◌-◌, ◌<◌, List, [], ◌∷◌, ◌++◌, length, take, get_or, sym, ap, subst, ◌∙◌, arith}
+use Rattle.std.proofs.lemmas.List.{length-take, take_more}
+use Rattle.fleet_base.specs.declared.entries.Entry.{Entry}
+use Rattle.fleet_base.specs.declared.numbers.CellNo.{CellNo}
+use Rattle.coordinator.specs.Books.{Book, state_of}
+use Rattle.fleet_model.specs.Journals.{IsJournal, state_after, turn_at}
+use Rattle.fleet_model.specs.States.{State, start_state}
+use Rattle.site_map.specs.Built.{BuiltSite}
+use Rattle.site_map.specs.Claims.{site_of}
+use Rattle.journal_replay.specs.Differing.{DiffersAt}
+use Rattle.journal_replay.specs.Taken.{IsGiven}
+
+-- a legal journal with one more entry that is given is legal
+pub given_more : (s : State) (before : List Entry) (entry : Entry) → IsJournal s before → IsGiven (state_after s before) entry → IsJournal s (before ++ entry ∷ [])
+given_more s [] entry is given = (given, tt)
+given_more s (e ∷ es) entry is given = (is.0, given_more (turn_at s e).after es entry is.1 given)
+
+-- and the last entry of a legal journal is given
+pub last_given : (s : State) (before : List Entry) (entry : Entry) → IsJournal s (before ++ entry ∷ []) → IsGiven (state_after s before) entry
+last_given s [] entry is = is.0
+last_given s (e ∷ es) entry is = last_given (turn_at s e).after es entry is.1
+
+-- the book of a coordinator that these entries were replayed on
+abbrev pub book_of : BuiltSite → List CellNo → ℕ → List Entry → Book
+book_of site starts cap entries = record { site = site; starts = starts; cap = cap; journal = entries }
+
+module _ (site : BuiltSite) (starts : List CellNo) (cap : ℕ) (entries : List Entry) (i : ℕ) (entry : Entry) (within : i < length entries) (at : get_or entries i entry ≡ entry) where
+  abbrev opening : State
+  opening = start_state (site_of site) starts cap
+
+  pub more : take (i + 1) entries ≡ take i entries ++ entry ∷ []
+  more = take_more entries i entry within ∙ ap (λ e. take i entries ++ e ∷ []) at
+
+  -- an entry that is given is replayed too
+  pub stands_more : (book : Book) → book ≡ book_of site starts cap (take i entries) → IsJournal opening (take i entries) → IsGiven (state_of book) entry → IsJournal opening (take (i + 1) entries)
+  stands_more book is replayable given = subst (IsJournal opening) (sym more) (given_more opening (take i entries) entry replayable (subst (λ (b : Book). IsGiven (state_of b) entry) is given))
+
+  -- one that isn't is the first that differs
+  pub differs_here : (book : Book) (number : ℕ) → book ≡ book_of site starts cap (take i entries) → IsJournal opening (take i entries) → (IsGiven (state_of book) entry → ⊥) → number ≡ length book.journal + 1 → DiffersAt opening entries number
+  differs_here book number is replayable differs numbers =
+      let count : length book.journal ≡ i = ap (λ (b : Book). length b.journal) is ∙ length_first in
+      let next : number ≡ i + 1 = omega (arith, numbers, count) in
+      let before : number - 1 ≡ i = omega (arith, next) in
+      record {
+        place = (omega (arith, next), omega (arith, next, within));
+        before = subst (λ n. IsJournal opening (take n entries)) (sym before) replayable;
+        differs = λ all. differs (subst (λ (b : Book). IsGiven (state_of b) entry) (sym is) (last_given opening (take i entries) entry (subst (IsJournal opening) (ap (λ n. take n entries) next ∙ more) all)));
+      }
+    where
+      length_first : length (take i entries) ≡ i
+      length_first = simp length-take (omega (arith, within))

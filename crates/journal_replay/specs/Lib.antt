@@ -1,0 +1,3 @@
+pub mod Differing
+pub mod Refusals
+pub mod Taken
