@@ -4,6 +4,7 @@ use Rattle.std.proofs.lemmas.Bool.{and_parts, both_ways, eqb-true, false_from_ne
 use Rattle.std.specs.Prelude.{Err}
 use Rattle.std.specs.List.{list_all}
 use Rattle.std.specs.Option.{is_none, is_some}
+use Rattle.fleet_model.specs.Lists.{has_cell}
 use Rattle.fleet_base.specs.declared.answers.ReplanRefused.{ReplanRefused}
 use Rattle.fleet_base.specs.declared.answers.ReplanRefused.TheVariants as refused
 use Rattle.fleet_base.specs.declared.entries.Act.TheVariants as act
@@ -18,12 +19,12 @@ use Rattle.fleet_model.specs.Plans.{IsBlocker, end_of}
 use Rattle.fleet_model.specs.Routes.{leads_to}
 use Rattle.fleet_model.specs.Deferral.{is_shut_to}
 use Rattle.fleet_model.specs.States.{State, is_full, is_robot, pending_of}
-use Rattle.fleet_model.specs.Calls.{Replan, Step, accepted, detour_of, first_of, has_cell, replan, span_of, with_route}
+use Rattle.fleet_model.specs.Calls.{Replan, Step, accepted, detour_of, first_of, replan, span_of, with_route}
 use Rattle.fleet_model.specs.Journals.{last_of}
 use Rattle.fleet_model.proofs.Accepted.{IsReplanned, replanned as found_detour}
 use Rattle.fleet_model.proofs.Detours.{detour_free, detour_least, detour_route, detour_to_last}
 use Rattle.fleet_model.proofs.Options.{when_none}
-use Rattle.fleet_model.proofs.SameNumbers.{same_cell}
+use Rattle.fleet_model.proofs.Turns.{last_away}
 use Rattle.coordinator.specs.Merging.{WouldMerge}
 use Rattle.coordinator.specs.Replans.{IsDetour}
 use Rattle.coordinator.proofs.Retries.{would_merge}
@@ -62,16 +63,6 @@ module _ (s : State) (r : ℕ) (goal : CellNo → Bool) (route : List CellNo) (i
 
   pub replanned : is_full s (length (steps s.fleet.site route)) ≡ false → replan s r goal ≡ accepted (span_of s route) r (act.Replanned route (first_of s)) (with_route s r route)
   replanned room = rw (lt-ltb r (length s.fleet.starts) is.robot, none_is (pending_of s r) is.pending, is.away, is.found, room) refl
-
--- a goal that the end isn't in has another last cell on the way to it
-last_away : (goal avoid : CellNo → Bool) (route : List CellNo) (end : CellNo) → leads_to goal avoid route ≡ true → goal end ≡ false → has_cell (last_of route) end ≡ false
-last_away goal avoid [] end leads away = refl
-last_away goal avoid (a ∷ bs) end leads away =
-    or_from ((last_cell a bs).0 == end.0) false
-    (false_from_ne_true ((last_cell a bs).0 == end.0) (λ t.
-    let same : last_cell a bs ≡ end = same_cell (last_cell a bs) end (eqb-true (last_cell a bs).0 end.0 t) in
-    both_ways (goal end) away (subst (λ c. goal c ≡ true) same (and_parts (goal (last_cell a bs)) (list_all (λ b. not (avoid b)) (a ∷ bs)) leads).0)))
-    refl
 
 -- a detour is the detour to its last cell alone
 pub to_last : (s : State) (r : ℕ) (goal : CellNo → Bool) (route : List CellNo) → IsSite s.fleet.site → IsDetour s r goal route → IsDetour s r (has_cell (last_of route)) route

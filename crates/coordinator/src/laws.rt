@@ -1,12 +1,13 @@
 //! Laws of replans.
 
 ghost use Rattle.std.specs.Prelude.{◌≡◌, ℕ, Bool, List, Some};
+ghost use Rattle.fleet_model.specs.Lists.{has_cell};
 ghost use Rattle.fleet_base.specs.declared.entries.Act.TheVariants.{Replanned};
 ghost use Rattle.fleet_base.specs.declared.numbers.CellNo.{CellNo};
 ghost use Rattle.fleet_base.specs.declared.numbers.ClaimNo.{ClaimNo};
 ghost use Rattle.fleet_base.specs.declared.numbers.EventNo.{EventNo};
 ghost use Rattle.fleet_base.specs.declared.numbers.RobotNo.{RobotNo};
-ghost use Rattle.fleet_model.specs.Calls.{has_cell, replan};
+ghost use Rattle.fleet_model.specs.Calls.{replan};
 ghost use Rattle.fleet_model.specs.Journals.{last_of};
 ghost use Rattle.fleet_model.specs.Plans.{IsBlocker};
 ghost use Rattle.fleet_model.specs.Sites.{IsSite};

@@ -1,11 +1,29 @@
 // The call over sources and sinks in memory.
 use crate::fleet;
 use fleet_io::{MemSink, MemSource, SureSink, SureSource};
+use std::alloc::Global;
+use std::process::Abort;
 use std::test::Fail;
 
 const USAGE: &[u8] = b"usage: fleet check | route FROM TO | script | replay\n";
 
 const ONE_STEP: &[u8] = b"fleet 1\ncell a b\nlane a b 1\nrobot r1 a\nend\npropose r1 a b\n";
+
+// Checks the status of the words and an input, and the whole output.
+fn check_told(
+    rt: &impl Abort,
+    alloc: Global,
+    words: &[&str],
+    input: &[u8],
+    status: u8,
+    text: &[u8],
+) -> Result<(), Fail> {
+    let mut source = SureSource::new(input.to_vec(alloc)?, 3);
+    let mut sink = SureSink::new(alloc, 5);
+    assert_eq!(rt; fleet(alloc, words, &mut source, &mut sink), status);
+    assert!(rt; sink.written() == text);
+    Ok(())
+}
 
 #[test]
 fn words_that_are_no_form_are_told_the_usage(rt: HostRuntime) -> Result<(), Fail> {
@@ -31,12 +49,8 @@ fn check_tells_the_canonical_text_or_the_fault(rt: HostRuntime) -> Result<(), Fa
         (b"fleet 1\ncell a\nrobot r1 a\n", 3, b"refused line 4 S22\n"),
         (b"fleet 1\ncell a\ncell a\n", 3, b"refused line 3 S10\n"),
     ];
-    let words: &[&str] = &["check"];
     for (input, status, text) in rows {
-        let mut source = SureSource::new(input.to_vec(rt.alloc())?, 3);
-        let mut sink = SureSink::new(rt.alloc(), 5);
-        assert_eq!(rt; fleet(rt.alloc(), words, &mut source, &mut sink), status);
-        assert!(rt; sink.written() == text);
+        check_told(&rt, rt.alloc(), &["check"], input, status, text)?;
     }
     Ok(())
 }
@@ -56,12 +70,8 @@ robot r1 at a end b\nholds a\nevent 1 acquire b\nevent 2 move a b\nevent 3 relea
             b"refused line 6 C4\n",
         ),
     ];
-    let words: &[&str] = &["script"];
     for (input, status, text) in rows {
-        let mut source = SureSource::new(input.to_vec(rt.alloc())?, 3);
-        let mut sink = SureSink::new(rt.alloc(), 5);
-        assert_eq!(rt; fleet(rt.alloc(), words, &mut source, &mut sink), status);
-        assert!(rt; sink.written() == text);
+        check_told(&rt, rt.alloc(), &["script"], input, status, text)?;
     }
     Ok(())
 }
@@ -75,12 +85,8 @@ fn route_tells_a_least_route_or_the_fault(rt: HostRuntime) -> Result<(), Fail> {
         ("a", "r1", 3, b"refused to\n"),
     ];
     for (from, to, status, text) in rows {
-        let words: &[&str] = &["route", from, to];
         let input = b"fleet 1\ncell a b\nlink a b 1\nrobot r1 a\nend\n";
-        let mut source = SureSource::new(input.to_vec(rt.alloc())?, 3);
-        let mut sink = SureSink::new(rt.alloc(), 5);
-        assert_eq!(rt; fleet(rt.alloc(), words, &mut source, &mut sink), status);
-        assert!(rt; sink.written() == text);
+        check_told(&rt, rt.alloc(), &["route", from, to], input, status, text)?;
     }
     Ok(())
 }
@@ -109,12 +115,8 @@ fn replay_tells_the_state_or_the_fault(rt: HostRuntime) -> Result<(), Fail> {
             b"refused line 7 T1\n",
         ),
     ];
-    let words: &[&str] = &["replay"];
     for (input, status, text) in rows {
-        let mut source = SureSource::new(input.to_vec(rt.alloc())?, 3);
-        let mut sink = SureSink::new(rt.alloc(), 5);
-        assert_eq!(rt; fleet(rt.alloc(), words, &mut source, &mut sink), status);
-        assert!(rt; sink.written() == text);
+        check_told(&rt, rt.alloc(), &["replay"], input, status, text)?;
     }
     Ok(())
 }

@@ -17,12 +17,12 @@ use Rattle.fleet_base.specs.declared.answers.Withdrawn.{Withdrawn as Removed}
 use Rattle.fleet_base.specs.declared.numbers.CellNo.{CellNo}
 use Rattle.fleet_base.specs.declared.numbers.Event.{Event}
 use Rattle.fleet_base.specs.declared.numbers.EventNo.{EventNo}
-use Rattle.fleet_model.specs.Lists.{In, here, when, first_some}
+use Rattle.fleet_model.specs.Lists.{In, here, when, first_some, has_cell}
 use Rattle.fleet_model.specs.Sites.{Site, IsSite, is_linked, IsWalk, IsWalkFrom, needs, steps}
 use Rattle.fleet_model.specs.Plans.{Fleet, own, unfinished, is_done, is_awaited, after, awaited, latest, IsBehind, IsReady, IsRoute, end_of, merged, route_events, removable_tail, withdrawn}
 use Rattle.fleet_model.specs.Deferral.{ends, least_blocker}
 use Rattle.fleet_model.specs.States.{State, is_robot, pending_of, pending_route, owed, is_full, block_of}
-use Rattle.fleet_model.specs.Calls.{Step, unless, unless_refused, propose_refusals, retry_refusals, cancel_refusals, withdraw_refusals, replan_refusals, report_refusals, accepted, moved, with_route, deferring, first_of, first_unlinked, unlinked_at, begin_at, propose_growth, propose_outcome, propose, detour_of, next_event, waits_on, is_number, reported, span_of, retry, cancel, withdraw, replan, report, look_of, Call, Propose, Retry, Cancel, Withdraw, Replan, Report, LookAt, turn, has_cell}
+use Rattle.fleet_model.specs.Calls.{Step, unless, unless_refused, propose_refusals, retry_refusals, cancel_refusals, withdraw_refusals, replan_refusals, report_refusals, accepted, moved, with_route, deferring, first_of, first_unlinked, unlinked_at, begin_at, propose_growth, propose_outcome, propose, detour_of, next_event, waits_on, is_number, reported, span_of, retry, cancel, withdraw, replan, report, look_of, Call, Propose, Retry, Cancel, Withdraw, Replan, Report, LookAt, turn}
 use Rattle.fleet_model.specs.Good.{IsAscending, IsGoodPlan, IsGood}
 use Rattle.fleet_model.proofs.Lists.{In-nil, In_either, In-append_right, In-filter, In_unfilter, length_In, some_one}
 use Rattle.fleet_model.proofs.Options.{not_none, none_of, map_none, map_some, when_none}

@@ -5,12 +5,12 @@ use Rattle.std.specs.Prelude.{slice_get}
 use Rattle.std.specs.List.{list_any, list_all}
 use Rattle.fleet_base.specs.declared.numbers.CellNo.{CellNo}
 use Rattle.fleet_base.specs.declared.numbers.ClaimNo.{ClaimNo}
-use Rattle.fleet_model.specs.Lists.{In, here, there, numbers_below}
+use Rattle.fleet_model.specs.Lists.{In, here, there, numbers_below, has_cell}
 use Rattle.fleet_model.specs.Sites.{Site, IsSite, cell_count, footprint_of, last_cell}
 use Rattle.fleet_model.specs.Plans.{Fleet, end_of, IsRoute, IsBlocker}
 use Rattle.fleet_model.specs.Routes.{leads_to, IsLeastRoute}
 use Rattle.fleet_model.specs.Deferral.{ends, is_kept_by, is_shut_to}
-use Rattle.fleet_model.specs.Calls.{detour_of, has_cell}
+use Rattle.fleet_model.specs.Calls.{detour_of}
 use Rattle.fleet_model.specs.Journals.{last_of}
 use Rattle.fleet_model.proofs.Lists.{In_below}
 use Rattle.fleet_model.proofs.Tests.{any_In, In_any, all_In}

@@ -47,3 +47,4 @@ pub mod Proposals
 pub mod Tables
 pub mod Holdings
 pub mod Room
+pub mod Counts

@@ -14,13 +14,13 @@ use Rattle.fleet_base.specs.declared.entries.Act.TheVariants.{Merged, Deferred, 
 use Rattle.fleet_base.specs.declared.entries.Entry.{Entry}
 use Rattle.fleet_base.specs.declared.numbers.CellNo.{CellNo}
 use Rattle.fleet_base.specs.declared.numbers.Span.{Span}
-use Rattle.fleet_model.specs.Lists.{when, first_some}
+use Rattle.fleet_model.specs.Lists.{when, first_some, has_cell}
 use Rattle.fleet_model.specs.Sites.{IsSite, last_cell}
 use Rattle.fleet_model.specs.Plans.{end_of, removable_tail, withdrawn}
 use Rattle.fleet_model.specs.Routes.{leads_to}
 use Rattle.fleet_model.specs.Deferral.{is_shut_to}
 use Rattle.fleet_model.specs.States.{State, is_robot, pending_route, block_of}
-use Rattle.fleet_model.specs.Calls.{Step, unless, unless_refused, propose_refusals, propose_outcome, retry_refusals, cancel_refusals, withdraw_refusals, replan, replan_refusals, report_refusals, next_event, reported, accepted, deferring, with_route, moved, span_of, first_of, detour_of, has_cell, Call, Propose, Retry, Cancel, Withdraw, Replan, Report, LookAt, look_of, turn, entries_of, after_calls}
+use Rattle.fleet_model.specs.Calls.{Step, unless, unless_refused, propose_refusals, propose_outcome, retry_refusals, cancel_refusals, withdraw_refusals, replan, replan_refusals, report_refusals, next_event, reported, accepted, deferring, with_route, moved, span_of, first_of, detour_of, Call, Propose, Retry, Cancel, Withdraw, Replan, Report, LookAt, look_of, turn, entries_of, after_calls}
 use Rattle.fleet_model.specs.Good.{IsGood}
 use Rattle.fleet_model.specs.Journals.{last_of, call_of, turn_at, IsJournal, state_after}
 use Rattle.fleet_model.proofs.Options.{when_none}
@@ -60,7 +60,7 @@ unless_none : {A E : Type 0} (refusals : List (Option E)) (s : State) (step : St
 unless_none refusals s step h = ap (λ o. unless_refused o s step) (all_none_first refusals h)
 
 -- a goal that the end isn't in has another last cell on the way to it
-last_away : (goal avoid : CellNo → Bool) (route : List CellNo) (end : CellNo) → leads_to goal avoid route ≡ true → goal end ≡ false → has_cell (last_of route) end ≡ false
+pub last_away : (goal avoid : CellNo → Bool) (route : List CellNo) (end : CellNo) → leads_to goal avoid route ≡ true → goal end ≡ false → has_cell (last_of route) end ≡ false
 last_away goal avoid [] end leads away = refl
 last_away goal avoid (a ∷ bs) end leads away =
     or_from ((last_cell a bs).0 == end.0) false

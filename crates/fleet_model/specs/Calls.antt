@@ -1,6 +1,5 @@
 -- The calls: each with its refusals in order, its answer and the state that it leaves.
 use Rattle.std.specs.Prelude.{false, ℕ, ◌+◌, ◌-◌, Bool, not, ◌==◌, nat_lt, nat_le, List, [], ◌∷◌, ◌++◌, length, position, Option, Some, None, Result, Ok, Err, slice_get, slice_set}
-use Rattle.std.specs.List.{list_any}
 use Rattle.std.specs.Option.{is_some, is_none, option_map, option_and_then, unwrap_or, option_to_list}
 use Rattle.fleet_base.specs.declared.answers.Block.{Block}
 use Rattle.fleet_base.specs.declared.answers.CancelRefused.{CancelRefused}
@@ -31,7 +30,7 @@ use Rattle.fleet_base.specs.declared.numbers.CellNo.{CellNo}
 use Rattle.fleet_base.specs.declared.numbers.Event.{Event}
 use Rattle.fleet_base.specs.declared.numbers.EventNo.{EventNo}
 use Rattle.fleet_base.specs.declared.numbers.Span.{Span}
-use Rattle.fleet_model.specs.Lists.{when, first_some}
+use Rattle.fleet_model.specs.Lists.{has_cell, when, first_some}
 use Rattle.fleet_model.specs.Sites.{Site, cell_count, is_linked, steps}
 use Rattle.fleet_model.specs.Plans.{Fleet, unfinished, own, awaited, latest, cell_of, end_of, merged, removable_tail, withdrawn}
 use Rattle.fleet_model.specs.Routes.{least_route}
@@ -264,9 +263,6 @@ pub record Turn : Type 0 where
 
 abbrev pub turn_of : {A E : Type 0} → (Result A E → Answer) → Step A E → Turn
 turn_of answer step = record { answer = answer step.answer; entry = step.entry; after = step.after }
-
-abbrev pub has_cell : List CellNo → CellNo → Bool
-has_cell cells a = list_any (λ b. b.0 == a.0) cells
 
 -- a call of robot r
 abbrev pub turn : State → ℕ → Call → Turn

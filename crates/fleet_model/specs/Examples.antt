@@ -17,13 +17,13 @@ use Rattle.fleet_base.specs.declared.numbers.Kind.TheVariants.{Acquire, Move, Re
 use Rattle.fleet_base.specs.declared.numbers.Link.{Link}
 use Rattle.fleet_base.specs.declared.numbers.RobotNo.{RobotNo}
 use Rattle.fleet_base.specs.declared.numbers.Span.{Span}
-use Rattle.fleet_model.specs.Lists.{numbers_below}
+use Rattle.fleet_model.specs.Lists.{numbers_below, has_cell}
 use Rattle.fleet_model.specs.Sites.{Site}
 use Rattle.fleet_model.specs.Replays.{opening, replay, held_claims}
 use Rattle.fleet_model.specs.Plans.{unfinished, awaited, cell_of}
 use Rattle.fleet_model.specs.Routes.{least_route}
 use Rattle.fleet_model.specs.States.{State, start_state}
-use Rattle.fleet_model.specs.Calls.{Call, Propose, Retry, Cancel, Withdraw, Replan, Report, LookAt, Answer, Proposes, Retries, Cancels, Withdraws, Replans, Reports, has_cell}
+use Rattle.fleet_model.specs.Calls.{Call, Propose, Retry, Cancel, Withdraw, Replan, Report, LookAt, Answer, Proposes, Retries, Cancels, Withdraws, Replans, Reports}
 
 -- Numbers.
 

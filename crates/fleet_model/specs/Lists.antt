@@ -1,6 +1,7 @@
 -- Words on lists that several definitions share.
-use Rattle.std.specs.Prelude.{◌≡◌, ℕ, Bool, if◌then◌else◌, List, [], ◌∷◌, ◌++◌, Option, Some, None, map}
-use Rattle.std.specs.List.{range_with_len, flat_map}
+use Rattle.std.specs.Prelude.{◌≡◌, ◌==◌, ℕ, Bool, if◌then◌else◌, List, [], ◌∷◌, ◌++◌, Option, Some, None, map}
+use Rattle.std.specs.List.{range_with_len, flat_map, list_any}
+use Rattle.fleet_base.specs.declared.numbers.CellNo.{CellNo}
 
 -- x is an element of the list
 pub data In {A : Type 0} (x : A) : List A → Type 0 where
@@ -14,6 +15,10 @@ Begins {A} xs ys = (rest : List A) × (ys ≡ xs ++ rest)
 -- the numbers below n
 abbrev pub numbers_below : ℕ → List ℕ
 numbers_below n = range_with_len 0 n
+
+-- the cell is one of these
+abbrev pub has_cell : List CellNo → CellNo → Bool
+has_cell cells a = list_any (λ b. b.0 == a.0) cells
 
 -- the value, where the test holds
 abbrev pub when : {A : Type 0} → Bool → A → Option A

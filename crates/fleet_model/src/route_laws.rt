@@ -1,12 +1,13 @@
 //! Laws of least routes, detours and the events of a route.
 
 ghost use Rattle.std.specs.Prelude.{◌≡◌, ℕ, ◌*◌, ◌≤◌, Bool, List, Option, Some, None, length, slice_get, true, false};
+ghost use Rattle.fleet_model.specs.Lists.{has_cell};
 ghost use Rattle.fleet_base.specs.declared.numbers.CellNo.{CellNo};
 ghost use Rattle.fleet_base.specs.declared.numbers.ClaimNo.{ClaimNo};
 ghost use Rattle.fleet_model.specs.Sites.{Site, IsSite, IsWalk, steps};
 ghost use Rattle.fleet_model.specs.Plans.{Fleet, end_of, IsRoute, IsBlocker};
 ghost use Rattle.fleet_model.specs.Routes.{IsLeastRoute, leads_to, least_route};
-ghost use Rattle.fleet_model.specs.Calls.{detour_of, has_cell};
+ghost use Rattle.fleet_model.specs.Calls.{detour_of};
 ghost use Rattle.fleet_model.specs.Journals.{last_of};
 
 /// The route that is found is the least of all walks to the goal, of any length; where none is found there is no such walk; and a least route is one, so it is the one that is found.

@@ -3,3 +3,4 @@ pub mod Journals
 pub mod Lines
 pub mod Runs
 pub mod Stops
+pub mod Told

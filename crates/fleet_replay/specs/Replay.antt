@@ -43,11 +43,12 @@ replay_of text = with_journal text (front_of text)
 abbrev pub reached_text : ScenarioValue → List Entry → List ℕ
 reached_text scenario entries = state_text scenario.names scenario.site (state_after (opening_of scenario) entries)
 
--- the same, or the first entry that differs
-abbrev pub unless_differs : Option ℕ → List ℕ → Result (List ℕ) ReplayFault
-unless_differs None state = Ok state
-unless_differs (Some entry) state = Err (EntryFault entry)
+-- a value, or the first entry that differs
+abbrev pub unless_differs : {A : Type 0} → Option ℕ → A → Result A ReplayFault
+unless_differs None value = Ok value
+unless_differs (Some entry) value = Err (EntryFault entry)
 
+-- the text of the state that entries reach, or the first that differs
 abbrev pub state_or : ScenarioValue → List Entry → Result (List ℕ) ReplayFault
 state_or scenario entries = unless_differs (first_differing (opening_of scenario) entries) (reached_text scenario entries)
 

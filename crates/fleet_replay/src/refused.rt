@@ -1,12 +1,13 @@
 //! Why a text isn't replayed.
 
 ghost use Rattle.std.specs.Prelude.{◌≡◌};
-ghost use Rattle.fleet_replay.specs.Stops.{of_replay, of_scenario};
+ghost use Rattle.fleet_replay.specs.Stops.{of_journal, of_replay, of_scenario};
 ghost use Rattle.fleet_replay.specs.declared.refused.ReplayFault.TheVariants.{Line};
 ghost use Rattle.fleet_replay.specs.declared.refused.TextRefused.TheVariants.{Fault, NoMemory as OutOfMemory};
 
 use fleet_base::path::NoMemory;
 use journal_replay::refused::ReplayRefused;
+use plan_journal::reading::ReadJournalRefused;
 use scenario::stop::ReadRefused;
 use site_lines::fault::At;
 
@@ -41,7 +42,18 @@ impl From<ReadRefused> for TextRefused {
     }
 }
 
-// The starts of a scenario are some and don't conflict, so where they are refused memory lacks.
+impl From<ReadJournalRefused> for TextRefused {
+    ghost from_gives = { λ cause refused. refused ≡ of_journal cause };
+
+    fn from(cause: ReadJournalRefused) -> Self {
+        match cause {
+            ReadJournalRefused::Bad(at) => TextRefused::from(at),
+            ReadJournalRefused::NoMemory => TextRefused::NoMemory,
+        }
+    }
+}
+
+// No starts are refused where an entry is replayed, so nothing but memory can lack beside it.
 impl From<ReplayRefused> for TextRefused {
     ghost from_gives = { λ cause refused. refused ≡ of_replay cause };
 

@@ -1,19 +1,15 @@
 //! A journal behind its scenario, replayed.
 
 ghost use Rattle.std.specs.Prelude.{◌≡◌, ◌^◌, ◌-◌, ◌<◌, IfOk, Ok, length};
-ghost use Rattle.scenario.specs.Parts.{parts_value};
-ghost use Rattle.scenario.specs.Scenarios.{IsScenario};
-ghost use Rattle.fleet_replay.specs.Replay.{ReplayValue, replay_of, replay_text, state_or};
-ghost use Rattle.fleet_replay.specs.Sound.{IsSoundRun, ReplaysSoundly};
+ghost use Rattle.fleet_replay.specs.Replay.{ReplayValue, replay_of, replay_text};
+ghost use Rattle.fleet_replay.specs.Sound.{ReplaysSoundly};
 ghost use Rattle.fleet_replay.specs.Stops.{Gives};
 
-use crate::reading::{Replay, read_replay};
+use crate::journal::{Run, replay_behind};
 use crate::refused::TextRefused;
 use crate::tail::check_tail;
-use fleet_base::entries::Entry;
-use fleet_base::limits::MAX_CAP;
 use fleet_report::state::state_text;
-use journal_replay::replay::replay;
+use scenario::read::read_front;
 use scenario::scenario::Parts;
 use std::alloc::Global;
 
@@ -31,32 +27,26 @@ pub fn replay_text(alloc: Global, input: &[u8]) -> Result<Vec<u8>, TextRefused>
     // reaches.
     ensures sound { IfOk result (λ text. (replay : ReplayValue) → replay_of input.now ≡ Ok replay → ReplaysSoundly replay text.items) }
 {
-    let Replay {
-        parts,
-        entries,
-        lines,
-        used,
-    } = read_replay(alloc, input)?;
-    let text = reached(alloc, parts, &entries)?;
-    let (_, tail) = input.split_at(used);
-    check_tail(tail, &text, lines)?;
-    Ok(text)
-}
-
-// The text of the state that entries reach.
-fn reached(alloc: Global, parts: Parts, entries: &[Entry]) -> Result<Vec<u8>, TextRefused>
-    requires { IsScenario (parts_value parts) }
-    ensures is { Gives (λ text. text.items) result (state_or (parts_value parts) entries.now) }
-    ensures sound { IfOk result (λ text. IsSoundRun (parts_value parts) entries.now) }
-{
+    let front = read_front(alloc, input)?;
+    let (_, behind) = input.split_at(front.used);
     let Parts {
         site,
         names,
         starts,
         ..
-    } = parts;
-    let fleet = replay(alloc, site, starts.cells(), MAX_CAP, entries)?;
+    } = front.scenario.into_parts();
+    let Run { fleet, end } = replay_behind(
+        alloc,
+        site,
+        starts.cells(),
+        &names,
+        behind,
+        front.lines,
+    )?;
     // What every coordinator keeps is said by its journal.
     let _kept = fleet.journal();
-    Ok(state_text(alloc, &names, &fleet)?)
+    let text = state_text(alloc, &names, &fleet)?;
+    let (_, tail) = behind.split_at(end.used);
+    check_tail(tail, &text, front.lines + end.lines)?;
+    Ok(text)
 }

@@ -1,9 +1,8 @@
 // The text of a least route.
-ghost use Rattle.std.specs.Prelude.{◌≡◌, ◌<◌, ◌++◌, [], All, IfOk, OnErr, OnOk};
-ghost use Rattle.fleet_base.specs.declared.limits.TheConstants.{MAX_CELLS};
+ghost use Rattle.std.specs.Prelude.{◌≡◌, ◌<◌, ◌++◌, [], IfOk, OnErr, OnOk};
+ghost use Rattle.fleet_model.specs.Lists.{has_cell};
 ghost use Rattle.fleet_base.specs.declared.numbers.CellNo.{CellNo};
-ghost use Rattle.route_plan.specs.Labels.{has, label_at};
-ghost use Rattle.site_map.specs.Cells.{has_cell};
+ghost use Rattle.route_plan.specs.Labels.{label_at};
 ghost use Rattle.site_map.specs.Goals.{IsGoal, goal_cells};
 ghost use Rattle.fleet_route.specs.Texts.{label_line, label_lines, route_line, route_text};
 
@@ -14,11 +13,11 @@ use fleet_texts::pushing::{push_number_word, push_text};
 use fleet_texts::words::{push_cell, push_cells};
 use route_plan::cell_set::CellSet;
 use route_plan::finder::least_route;
+use route_plan::goals::goal_set;
 use route_plan::refused::RouteRefused;
 use route_plan::route::Route;
 use scenario::scenario::Scenario;
 use site_map::goal::Goal;
-use site_map::site::Site;
 use std::alloc::Global;
 
 // The text of the least route from a cell to a goal, past no cell.
@@ -34,37 +33,12 @@ pub(crate) fn route_text(
 {
     let site = scenario.site();
     let mut text = Vec::new(alloc);
-    match least_route(site, from, &cells_of(site, goal), &CellSet::new(), alloc) {
+    match least_route(site, from, &goal_set(site, goal), &CellSet::new(), alloc) {
         Ok(route) => push_route(&mut text, scenario.names(), site.cell_count(), &route)?,
         Err(RouteRefused::Unreachable) => push_text(&mut text, b"unreachable\n")?,
         Err(RouteRefused::NoMemory) => return Err(NoMemory),
     }
     Ok(text)
-}
-
-// The cells of a goal.
-fn cells_of(site: &Site, goal: Goal) -> CellSet
-    requires { IsGoal site.now goal }
-    ensures { (cell : CellNo) → has result cell ≡ has_cell (goal_cells site.now goal) cell }
-{
-    // A site has at most 1,024 cells.
-    let _count = site.cell_count();
-    match goal {
-        Goal::Cell(cell) => set_of(&[cell]),
-        Goal::Area(area) => set_of(site.area_cells(area)),
-    }
-}
-
-// The set of these cells.
-fn set_of(cells: &[CellNo]) -> CellSet
-    requires { All (λ cell. cell.0 < MAX_CELLS) cells.now }
-    ensures { (cell : CellNo) → has result cell ≡ has_cell cells.now cell }
-{
-    let mut set = CellSet::new();
-    for cell in cells {
-        set.put(*cell);
-    }
-    set
 }
 
 // Appends the line of a route, and the lines of the labels of so many cells.

@@ -1,6 +1,5 @@
 pub mod Answering
 pub mod Endings
-pub mod Fronts
 pub mod Goals
 pub mod Proposals
 pub mod Refusing

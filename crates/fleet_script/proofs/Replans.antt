@@ -6,8 +6,8 @@ use Rattle.fleet_base.specs.declared.answers.ReplanRefused.TheVariants.{NoMemory
 use Rattle.fleet_base.specs.declared.entries.Act.TheVariants.{Replanned}
 use Rattle.fleet_base.specs.declared.numbers.CellNo.{CellNo}
 use Rattle.fleet_base.specs.declared.numbers.Span.{Span}
-use Rattle.fleet_model.specs.Calls.{Replan, Replans, accepted, detour_of, first_of, has_cell, replan, replan_refusals, span_of, with_route}
-use Rattle.fleet_model.specs.Lists.{first_some}
+use Rattle.fleet_model.specs.Calls.{Replan, Replans, accepted, detour_of, first_of, replan, replan_refusals, span_of, with_route}
+use Rattle.fleet_model.specs.Lists.{first_some, has_cell}
 use Rattle.fleet_model.specs.States.{State}
 use Rattle.fleet_names.specs.Names.{Named}
 use Rattle.fleet_texts.specs.Answers.{answer_text}

@@ -7,7 +7,7 @@ ghost use Rattle.fleet_names.specs.Names.{Named};
 ghost use Rattle.fleet_script.specs.Carried.{AreAnswered, HasGoal, IsAnswered};
 ghost use Rattle.site_map.specs.Goals.{IsGoal, goal_cells};
 
-use crate::goal_cells::goal_set;
+use route_plan::goals::goal_set;
 use coordinator::coordinator::Coordinator;
 use fleet_base::answers::{ProposeRefused, ReplanRefused, RetryRefused};
 use fleet_base::numbers::{EventNo, RobotNo};

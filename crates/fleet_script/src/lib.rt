@@ -5,7 +5,6 @@
 #![tactic(auto)]
 
 mod carrying;
-mod goal_cells;
 mod reading;
 pub mod refused;
 pub mod script;

@@ -16,9 +16,9 @@ use Rattle.fleet_base.specs.declared.entries.Entry.{Entry}
 use Rattle.fleet_base.specs.declared.numbers.CellNo.{CellNo}
 use Rattle.fleet_base.specs.declared.numbers.EventNo.{EventNo}
 use Rattle.fleet_base.specs.declared.numbers.Span.{Span}
-use Rattle.fleet_model.specs.Calls.{accepted, detour_of, first_of, has_cell, replan, replan_refusals, span_of, with_route}
+use Rattle.fleet_model.specs.Calls.{accepted, detour_of, first_of, replan, replan_refusals, span_of, with_route}
 use Rattle.fleet_model.specs.Journals.{last_of}
-use Rattle.fleet_model.specs.Lists.{In, first_some, here, there}
+use Rattle.fleet_model.specs.Lists.{In, first_some, here, there, has_cell}
 use Rattle.fleet_model.specs.Plans.{IsRoute, end_of}
 use Rattle.fleet_model.specs.Sites.{IsSite, IsWalk, Site, last_cell}
 use Rattle.fleet_model.specs.States.{State}

@@ -1,5 +1,7 @@
 -- The entries that were replayed so far.
-use Rattle.std.proofs.Common.{◌≡◌, ℕ, ◌+◌, ◌-◌, ◌<◌, List, [], ◌∷◌, ◌++◌, length, take, get_or, sym, ap, subst, ◌∙◌, arith}
+use Rattle.std.proofs.Common.{◌≡◌, ℕ, ◌+◌, ◌-◌, ◌<◌, List, [], ◌∷◌, ◌++◌, length, take, get_or, Ok, Err, Result, sym, ap, subst, ◌∙◌, arith}
+use Rattle.std.specs.Prelude.{IfErr}
+use Rattle.std.specs.Result.{IsErrAnd}
 use Rattle.std.proofs.lemmas.List.{length-take, take_more}
 use Rattle.fleet_base.specs.declared.entries.Entry.{Entry}
 use Rattle.fleet_base.specs.declared.numbers.CellNo.{CellNo}
@@ -9,7 +11,10 @@ use Rattle.fleet_model.specs.States.{State, start_state}
 use Rattle.site_map.specs.Built.{BuiltSite}
 use Rattle.site_map.specs.Claims.{site_of}
 use Rattle.journal_replay.specs.Differing.{DiffersAt}
-use Rattle.journal_replay.specs.Taken.{IsGiven}
+use Rattle.journal_replay.specs.Refusals.{OnDiffers}
+use Rattle.journal_replay.specs.Taken.{IsGiven, IsReplayed}
+use Rattle.journal_replay.specs.declared.refused.ReplayRefused.{ReplayRefused}
+use Rattle.journal_replay.specs.declared.refused.ReplayRefused.TheVariants.{New, Differs, NoMemory}
 
 -- a legal journal with one more entry that is given is legal
 pub given_more : (s : State) (before : List Entry) (entry : Entry) → IsJournal s before → IsGiven (state_after s before) entry → IsJournal s (before ++ entry ∷ [])
@@ -37,7 +42,7 @@ module _ (site : BuiltSite) (starts : List CellNo) (cap : ℕ) (entries : List E
   stands_more book is replayable given = subst (IsJournal opening) (sym more) (given_more opening (take i entries) entry replayable (subst (λ (b : Book). IsGiven (state_of b) entry) is given))
 
   -- one that isn't is the first that differs
-  pub differs_here : (book : Book) (number : ℕ) → book ≡ book_of site starts cap (take i entries) → IsJournal opening (take i entries) → (IsGiven (state_of book) entry → ⊥) → number ≡ length book.journal + 1 → DiffersAt opening entries number
+  differs_here : (book : Book) (number : ℕ) → book ≡ book_of site starts cap (take i entries) → IsJournal opening (take i entries) → (IsGiven (state_of book) entry → ⊥) → number ≡ length book.journal + 1 → DiffersAt opening entries number
   differs_here book number is replayable differs numbers =
       let count : length book.journal ≡ i = ap (λ (b : Book). length b.journal) is ∙ length_first in
       let next : number ≡ i + 1 = omega (arith, numbers, count) in
@@ -50,3 +55,14 @@ module _ (site : BuiltSite) (starts : List CellNo) (cap : ℕ) (entries : List E
     where
       length_first : length (take i entries) ≡ i
       length_first = simp length-take (omega (arith, within))
+
+  -- so a refusal that names an entry names the first that differs
+  pub refused_here : (book new : Book) (cause : ReplayRefused) → book ≡ book_of site starts cap (take i entries) → IsJournal opening (take i entries) → IsReplayed entry book new (Err cause) → OnDiffers (DiffersAt opening entries) cause
+  refused_here book new (New cause) is replayable replayed = tt
+  refused_here book new (Differs number) is replayable replayed = differs_here book number is replayable replayed.0 replayed.1
+  refused_here book new NoMemory is replayable replayed = tt
+
+-- what is handed on keeps what holds of it
+pub kept_on : {A : Type 0} (P : ReplayRefused → Type 0) (result : Result A ReplayRefused) (cause : ReplayRefused) → IsErrAnd result (λ e. e ≡ cause) → P cause → IfErr result P
+kept_on P (Ok a) cause is holds = tt
+kept_on P (Err e) cause is holds = subst P (sym is) holds

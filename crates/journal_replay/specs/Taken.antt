@@ -1,5 +1,5 @@
 -- What becomes of an entry that is replayed.
-use Rattle.std.specs.Prelude.{◌≡◌, [], ◌∷◌, Some, Result, Ok, Err}
+use Rattle.std.specs.Prelude.{◌≡◌, ◌+◌, [], ◌∷◌, length, Some, Result, Ok, Err}
 use Rattle.coordinator.specs.Books.{Book, state_of, with_entries}
 use Rattle.fleet_base.specs.declared.answers.ProposeRefused.{ProposeRefused}
 use Rattle.fleet_base.specs.declared.answers.ProposeRefused.TheVariants as propose
@@ -12,6 +12,8 @@ use Rattle.fleet_model.specs.Journals.{turn_at}
 use Rattle.fleet_model.specs.States.{State}
 use Rattle.journal_replay.specs.declared.entry.EntryRefused.{EntryRefused}
 use Rattle.journal_replay.specs.declared.entry.EntryRefused.TheVariants.{Differs, NoMemory}
+use Rattle.journal_replay.specs.declared.refused.ReplayRefused.{ReplayRefused}
+use Rattle.journal_replay.specs.declared.refused.ReplayRefused.TheVariants as replaying
 
 -- a refusal of a proposal, and of a retry
 abbrev pub of_proposal : ProposeRefused → EntryRefused
@@ -50,3 +52,10 @@ abbrev pub IsTaken : Entry → Book → Book → Result (Unit {0}) EntryRefused 
 IsTaken entry old new (Ok done) = IsGiven (state_of old) entry × (new ≡ with_entries old (entry ∷ []))
 IsTaken entry old new (Err Differs) = IsGiven (state_of old) entry → ⊥
 IsTaken entry old new (Err NoMemory) = Unit {0}
+
+-- The same of one entry of a journal: one that differs is numbered behind those that stand in the book.
+abbrev pub IsReplayed : Entry → Book → Book → Result (Unit {0}) ReplayRefused → Type 0
+IsReplayed entry old new (Ok done) = IsGiven (state_of old) entry × (new ≡ with_entries old (entry ∷ []))
+IsReplayed entry old new (Err (replaying.Differs n)) = (IsGiven (state_of old) entry → ⊥) × (n ≡ length old.journal + 1)
+IsReplayed entry old new (Err (replaying.New cause)) = ⊥
+IsReplayed entry old new (Err replaying.NoMemory) = Unit {0}

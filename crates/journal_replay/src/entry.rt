@@ -1,9 +1,9 @@
 // One entry of a journal: its call is made, and the answer compared with it.
 ghost use Rattle.std.specs.Prelude.{◌≡◌, ◌≤◌, true, [], ◌∷◌, None, IfSome};
+ghost use Rattle.fleet_model.specs.Lists.{has_cell};
 ghost use Rattle.fleet_base.specs.declared.entries.Act.TheVariants as act;
 ghost use Rattle.fleet_base.specs.declared.limits.TheConstants.{MAX_CELLS};
 ghost use Rattle.fleet_base.specs.declared.numbers.CellNo.{CellNo};
-ghost use Rattle.fleet_model.specs.Calls.{has_cell};
 ghost use Rattle.fleet_model.specs.Journals.{last_of};
 ghost use Rattle.route_plan.specs.Labels.{has};
 ghost use Rattle.journal_replay.specs.Taken.{IsTaken, of_proposal, of_replan, of_retry};

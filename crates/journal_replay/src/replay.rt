@@ -8,6 +8,7 @@ ghost use Rattle.coordinator.specs.Openings.{IsRefusal, opening_cause};
 ghost use Rattle.fleet_model.specs.Journals.{IsJournal};
 ghost use Rattle.journal_replay.specs.Differing.{DiffersAt};
 ghost use Rattle.journal_replay.specs.Refusals.{OnDiffers, OnNew};
+ghost use Rattle.journal_replay.specs.Taken.{IsReplayed};
 
 use crate::entry::{EntryRefused, take_entry};
 use crate::refused::ReplayRefused;
@@ -44,12 +45,23 @@ pub fn replay(
 {
     let mut fleet = Coordinator::new(alloc, site, starts, cap)?;
     for entry in entries {
-        let before = fleet.journal().len() as u32;
-        match take_entry(&mut fleet, entry) {
-            Ok(()) => {}
-            Err(EntryRefused::Differs) => return Err(ReplayRefused::Differs { entry: before + 1 }),
-            Err(EntryRefused::NoMemory) => return Err(ReplayRefused::NoMemory),
-        }
+        replay_entry(&mut fleet, entry)?;
     }
     Ok(fleet)
+}
+
+/// Makes the call that an entry records, and compares its answer with the entry, which may hold any
+/// numbers. On a refusal the coordinator is of no further use.
+///
+/// The coordinator's cap is at most 1,000,000.
+pub fn replay_entry(fleet: &mut Coordinator, entry: &Entry) -> Result<(), ReplayRefused>
+    requires { fleet.old.cap ≤ MAX_CAP }
+    ensures { IsReplayed entry.now fleet.old fleet.new result }
+{
+    let before = fleet.journal().len() as u32;
+    match take_entry(fleet, entry) {
+        Ok(()) => Ok(()),
+        Err(EntryRefused::Differs) => Err(ReplayRefused::Differs { entry: before + 1 }),
+        Err(EntryRefused::NoMemory) => Err(ReplayRefused::NoMemory),
+    }
 }

@@ -1,7 +1,7 @@
 //! Journals of robots at a junction, in the middle of which, cell 1, three lanes meet.
 
 use crate::refused::ReplayRefused;
-use crate::replay::replay;
+use crate::replay::{replay, replay_entry};
 use coordinator::coordinator::Coordinator;
 use coordinator::refused::NewRefused;
 use fleet_base::entries::{Act, Entry};
@@ -128,6 +128,23 @@ fn the_first_entry_that_differs_is_named(rt: HostRuntime) -> Result<(), Fail> {
     assert_eq!(rt; differs(alloc, &[merged, (0, Told::Withdrawn(2, 0))]), 2);
     assert_eq!(rt; differs(alloc, &[merged, (0, Told::Withdrawn(3, 1))]), 2);
     assert_eq!(rt; differs(alloc, &[merged, (0, Told::Withdrawn(3, 0))]), 0);
+    Ok(())
+}
+
+#[test]
+fn entries_are_replayed_one_by_one(rt: HostRuntime) -> Result<(), Fail> {
+    let (alloc, starts) = (rt.alloc(), [CellNo(0), CellNo(2)]);
+    let site = junction(alloc)?;
+    assert_eq!(rt; site.cell_count(), 4);
+    let mut fleet = Coordinator::new(alloc, site, &starts, 100).map_err(|_| "new")?;
+    let merged = Entry {
+        robot: RobotNo(0),
+        act: act(alloc, Told::Merged(0, 1, 1))?,
+    };
+    assert_eq!(rt; replay_entry(&mut fleet, &merged), Ok(()));
+    assert_eq!(rt; fleet.journal().len(), 1);
+    let again = replay_entry(&mut fleet, &merged);
+    assert_eq!(rt; again, Err(ReplayRefused::Differs { entry: 2 }));
     Ok(())
 }
 

@@ -10,7 +10,7 @@ use Rattle.fleet_base.specs.declared.numbers.CellNo.{CellNo}
 use Rattle.fleet_base.specs.declared.numbers.ClaimNo.{ClaimNo}
 use Rattle.fleet_base.specs.declared.numbers.Kind.{Kind}
 use Rattle.fleet_base.specs.declared.numbers.Kind.TheVariants.{Acquire, Move, Release}
-use Rattle.fleet_model.specs.Lists.{In}
+use Rattle.fleet_model.specs.Lists.{In, has_cell}
 use Rattle.fleet_model.specs.Sites.{Site, IsSite, IsWalkFrom, footprint_of, has_claim, is_linked, last_cell, link_cost, moved_to, step, steps_from, without}
 use Rattle.fleet_model.specs.Replays.{AreSteps}
 use Rattle.fleet_model.proofs.Blockers.{In_has}
@@ -20,7 +20,6 @@ use Rattle.fleet_model.proofs.SameNumbers.{same_cell}
 use Rattle.fleet_model.proofs.Steps.{moved_to-append, moved_to-steps, steps-append, walk_front}
 use Rattle.fleet_model.proofs.Tests.{any_none}
 use Rattle.site_map.specs.Built.{BuiltSite}
-use Rattle.site_map.specs.Cells.{has_cell}
 use Rattle.site_map.specs.Claims.{claims_from, site_of}
 use Rattle.site_map.specs.Crossings.{BuiltCrossing, claim_count_of, flow_of}
 use Rattle.site_map.proofs.SiteLemmas.{footprint_at, slice_get_left}

@@ -1,6 +1,6 @@
 //! The reader of a journal.
 
-ghost use Rattle.std.specs.Prelude.{◌≡◌, ◌+◌, ◌-◌, ◌^◌, ◌<◌, ◌≤◌, [], ◌∷◌, length, drop, slice_range, codes, Ok, Err, if◌then◌else◌, MatchOption, IfSome, MatchResult, IfOk};
+ghost use Rattle.std.specs.Prelude.{◌≡◌, ◌+◌, ◌-◌, ◌^◌, ◌<◌, ◌≤◌, List, [], ◌∷◌, length, drop, slice_range, codes, Ok, Err, if◌then◌else◌, MatchOption, IfSome, MatchResult, IfOk, IfErr};
 ghost use Rattle.std.specs.List.{list_any};
 ghost use Rattle.std.specs.Str.{bytes_eq};
 ghost use Rattle.site_lines.specs.declared.fault.Code.TheVariants.{J3};
@@ -8,7 +8,7 @@ ghost use Rattle.fleet_names.specs.Names.{Named, count_of};
 ghost use Rattle.fleet_names.specs.Things.{is_robot};
 ghost use Rattle.plan_journal.specs.Entries.{line_of};
 ghost use Rattle.plan_journal.specs.Gives.{Gives, GivesLine, refused_at};
-ghost use Rattle.plan_journal.specs.Left.{left};
+ghost use Rattle.plan_journal.specs.Left.{IsRead, IsReadOn, IsWithin, left};
 ghost use Rattle.plan_journal.specs.Reading.{checked, ended_lines, is_odd, journal_of, parts_of};
 
 use crate::lines::{LineRefused, line_of};
@@ -33,8 +33,18 @@ pub fn read_journal(
     requires short { length bytes.now < 2 ^ 32 - 1 }
     ensures is { Gives result (journal_of names.now bytes.now) }
 {
-    let from = header_end(bytes)?;
-    read_entries(alloc, bytes, names, from)
+    let mut place = read_header(bytes)?;
+    let mut entries = Vec::new(alloc);
+    while let Some(entry) = read_entry(alloc, bytes, names, &mut place)? {
+        if entries.push(entry).is_err() {
+            return Err(ReadJournalRefused::NoMemory);
+        }
+    }
+    Ok(JournalFront {
+        entries,
+        used: place.used,
+        lines: place.lines,
+    })
 }
 
 /// What a text begins with: a journal, and how much of the text it takes.
@@ -122,18 +132,31 @@ fn line_end(bytes: &[u8], from: usize) -> Option<usize>
     }
 }
 
-// The place behind the first line, which is the header.
-fn header_end(bytes: &[u8]) -> Result<usize, At>
+/// How much of a journal was read.
+#[derive(Clone, Copy, Debug, PartialEq, Eq)]
+pub struct Place {
+    /// How many bytes, up to and with the line feed of the last line that was read.
+    pub used: usize,
+    /// How many lines, with the header.
+    pub lines: u32,
+}
+
+/// The place behind the first line, which is the header.
+pub fn read_header(bytes: &[u8]) -> Result<Place, At>
     ensures is { (names : Named) → MatchResult result
-        (λ from. journal_of names bytes.now ≡ left names bytes.now [] from 1)
+        (λ place. journal_of names bytes.now ≡ left names bytes.now [] place)
         (λ at. journal_of names bytes.now ≡ Err at) }
-    ensures within { IfOk result (λ from. (1 ≤ from) × (from ≤ length bytes.now)) }
+    ensures first { IfOk result (λ place. place.lines ≡ 1) }
+    ensures within { IfOk result (IsWithin bytes.now) }
 {
     let Some(stop) = line_end(bytes, 0) else {
         return Err(first_line(Code::J9));
     };
     match check_header(&bytes[..stop]) {
-        Ok(()) => Ok(stop + 1),
+        Ok(()) => Ok(Place {
+            used: stop + 1,
+            lines: 1,
+        }),
         Err(code) => Err(first_line(code)),
     }
 }
@@ -157,42 +180,53 @@ fn first_line(code: Code) -> At
     At { line: 1, code }
 }
 
-// The entries behind the header, which ends at a place.
-fn read_entries(
+/// Reads the line behind a place: the entry that it says, or None at the journal's end. Each line
+/// between the header and the place has an entry. On a refusal the place stays.
+pub fn read_entry(
     alloc: Global,
     bytes: &[u8],
     names: &Names,
-    from: usize,
-) -> Result<JournalFront, ReadJournalRefused>
+    place: &mut Place,
+) -> Result<Option<Entry>, ReadJournalRefused>
     requires robots { count_of is_robot names.now ≤ 64 }
     requires short { length bytes.now < 2 ^ 32 - 1 }
-    requires place { (1 ≤ from) × (from ≤ length bytes.now) }
-    ensures { Gives result (left names.now bytes.now [] from 1) }
+    requires within { IsWithin bytes.now place.old }
+    ensures is { (entries : List Entry) → place.old.lines ≡ length entries + 1 → IsRead names.now bytes.now entries place.old place.new result }
+    ensures moved { IfOk result (λ entry. (place.old.used < place.new.used) × (place.new.lines ≡ place.old.lines + 1)) }
+    ensures within { IsWithin bytes.now place.new }
+    ensures stays { IfErr result (λ refused. place.new ≡ place.old) }
 {
-    let mut entries = Vec::new(alloc);
-    let mut lines = 1u32;
-    let mut at = from;
-    while let Some(stop) = line_end(bytes, at) {
-        let full = entries.len() >= MAX_CAP as usize;
-        match entry_at(alloc, names, full, &bytes[at..stop]) {
-            Ok(Some(entry)) => {
-                if entries.push(entry).is_err() {
-                    return Err(ReadJournalRefused::NoMemory);
-                }
-            }
-            Ok(None) => {
-                return Ok(JournalFront {
-                    entries,
-                    used: stop + 1,
-                    lines: lines + 1,
-                });
-            }
-            Err(refused) => return Err(refused_at(lines + 1, refused)),
+    let line = place.lines + 1;
+    let Some(stop) = line_end(bytes, place.used) else {
+        return Err(refused_at(line, LineRefused::Bad(Code::J9)));
+    };
+    let full = place.lines > MAX_CAP;
+    match entry_at(alloc, names, full, &bytes[place.used..stop]) {
+        Ok(entry) => {
+            *place = Place {
+                used: stop + 1,
+                lines: line,
+            };
+            Ok(entry)
         }
-        lines += 1;
-        at = stop + 1;
+        Err(refused) => Err(refused_at(line, refused)),
     }
-    Err(refused_at(lines + 1, LineRefused::Bad(Code::J9)))
+}
+
+/// Reads on from a place to the journal's end, and keeps none of its entries.
+pub fn read_rest(
+    alloc: Global,
+    bytes: &[u8],
+    names: &Names,
+    mut place: Place,
+) -> Result<(), ReadJournalRefused>
+    requires robots { count_of is_robot names.now ≤ 64 }
+    requires short { length bytes.now < 2 ^ 32 - 1 }
+    requires within { IsWithin bytes.now place }
+    ensures is { (entries : List Entry) → place.lines ≡ length entries + 1 → IsReadOn entries (left names.now bytes.now entries place) result }
+{
+    while read_entry(alloc, bytes, names, &mut place)?.is_some() {}
+    Ok(())
 }
 
 // Why a journal isn't read whose line of this number isn't.

@@ -1,6 +1,7 @@
 // The journals of every act read, and a bad line for each code.
 use crate::lines::{LineRefused, line_of};
-use crate::reading::{ReadJournalRefused, read_journal};
+use crate::reading::{Place, ReadJournalRefused, read_entry, read_header, read_journal, read_rest};
+use fleet_base::numbers::RobotNo;
 use fleet_names::names::{NameRefused, Names};
 use fleet_names::thing::Thing;
 use fleet_texts::journal::print_journal;
@@ -60,6 +61,43 @@ fn what_is_read_is_printed_again(rt: HostRuntime) -> Result<(), Fail> {
     let front = read_journal(rt.alloc(), JOURNAL.as_bytes(), &names).map_err(|_| "refused")?;
     let text = print_journal(rt.alloc(), &names, &front.entries)?;
     assert!(rt; text.as_slice() == JOURNAL.as_bytes());
+    Ok(())
+}
+
+#[test]
+fn a_journal_is_read_line_by_line(rt: HostRuntime) -> Result<(), Fail> {
+    let names = names(rt.alloc()).map_err(|_| "names")?;
+    assert!(rt; names.count_robots() <= 64);
+    let text = b"journal 1\nreported r1 1\nreported r2 02\nend\n".as_slice();
+    let header = Place { used: 10, lines: 1 };
+    let mut place = read_header(text).map_err(|_| "header")?;
+    assert_eq!(rt; place, header);
+    let bad = Err(ReadJournalRefused::Bad(At {
+        line: 3,
+        code: Code::J6,
+    }));
+    assert_eq!(rt; read_rest(rt.alloc(), text, &names, place), bad);
+    let first = read_entry(rt.alloc(), text, &names, &mut place).map_err(|_| "entry")?;
+    assert!(rt; matches!(first, Some(entry) if entry.robot == RobotNo(0)));
+    let behind = Place { used: 24, lines: 2 };
+    assert_eq!(rt; place, behind);
+    let second = read_entry(rt.alloc(), text, &names, &mut place).map(|_| ());
+    assert_eq!(rt; second, bad);
+    assert_eq!(rt; place, behind);
+    assert_eq!(rt; read_header(b"journal 2\n"), Err(At { line: 1, code: Code::J3 }));
+    Ok(())
+}
+
+#[test]
+fn the_place_behind_a_journal_is_its_end(rt: HostRuntime) -> Result<(), Fail> {
+    let names = names(rt.alloc()).map_err(|_| "names")?;
+    assert!(rt; names.count_robots() <= 64);
+    let text = b"journal 1\nend\nmore".as_slice();
+    let mut place = read_header(text).map_err(|_| "header")?;
+    assert_eq!(rt; read_rest(rt.alloc(), text, &names, place), Ok(()));
+    let end = read_entry(rt.alloc(), text, &names, &mut place).map_err(|_| "end")?;
+    assert!(rt; end.is_none());
+    assert_eq!(rt; place, Place { used: 14, lines: 2 });
     Ok(())
 }
 

@@ -4,6 +4,7 @@
 pub mod cell_set;
 pub mod checker;
 pub mod finder;
+pub mod goals;
 mod incoming;
 mod labels;
 pub mod laws;

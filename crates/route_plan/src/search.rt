@@ -25,7 +25,7 @@ use std::collections::BinaryHeap;
 #[derive(Drop)]
 struct Search {
     labels: Vec<Option<u64>>,
-    open: BinaryHeap<Reverse<(u64, u32)>>,
+    queue: BinaryHeap<Reverse<(u64, u32)>>,
 }
 
 // The least cost from each cell to the goal past the cells to avoid, by Dijkstra's algorithm from
@@ -42,7 +42,7 @@ pub(crate) fn least_labels(
     let count = site.cell_count();
     let rows = incoming(site, alloc)?;
     let mut search = Search::from_goal(count, goal, avoid, alloc)?;
-    while let Some(Reverse((label, number))) = search.open.pop() {
+    while let Some(Reverse((label, number))) = search.queue.pop() {
         search.visit(CellNo(number), label, &rows, avoid)?;
     }
     Ok(search.labels)
@@ -65,19 +65,19 @@ impl Search {
         alloc: Global,
     ) -> Result<Search, AllocError>
         requires { count ≤ MAX_CELLS }
-        ensures { IfOk result (λ s. IsBegun count (has goal.now) (has avoid.now) s.labels.items (heap_items s.open)) }
+        ensures { IfOk result (λ s. IsBegun count (has goal.now) (has avoid.now) s.labels.items (heap_items s.queue)) }
     {
         let mut labels = Vec::with_capacity(alloc, count as usize)?;
-        let mut open = BinaryHeap::new(alloc);
+        let mut queue = BinaryHeap::new(alloc);
         for number in 0..count {
             if is_free_goal(CellNo(number), goal, avoid) {
-                open.push(Reverse((0, number)))?;
+                queue.push(Reverse((0, number)))?;
                 labels.push(Some(0))?;
             } else {
                 labels.push(None)?;
             }
         }
-        Ok(Search { labels, open })
+        Ok(Search { labels, queue })
     }
 
     // Looks back from a cell that stood open with this label, if that is still its label.
@@ -93,11 +93,11 @@ impl Search {
         requires froms { (b : CellNo) (e : Entry) → Contains (row_at rows.now b) e → e.from.0 < length self.old.labels.items }
         requires low { AreLow self.old.labels.items }
         ensures kept { (site : PlainSite) (goal : CellNo → Bool) → IsSite site → AreIncoming site rows.now →
-            IsSettled site goal (has avoid.now) self.old.labels.items (open_at label cell ∷ heap_items self.old.open) →
-            OnOk result (IsSettled site goal (has avoid.now) self.new.labels.items (heap_items self.new.open)) }
+            IsSettled site goal (has avoid.now) self.old.labels.items (open_at label cell ∷ heap_items self.old.queue) →
+            OnOk result (IsSettled site goal (has avoid.now) self.new.labels.items (heap_items self.new.queue)) }
         ensures long { length self.new.labels.items ≡ length self.old.labels.items }
         ensures low { AreLow self.new.labels.items }
-        ensures nearer { OnOk result (work self.new.labels.items (heap_items self.new.open) ≤ work self.old.labels.items (heap_items self.old.open)) }
+        ensures nearer { OnOk result (work self.new.labels.items (heap_items self.new.queue) ≤ work self.old.labels.items (heap_items self.old.queue)) }
     {
         let at = cell.0 as usize;
         if self.labels[at] == Some(label) {
@@ -118,11 +118,11 @@ impl Search {
         requires froms { (e : Entry) → Contains row.now e → e.from.0 < length self.old.labels.items }
         requires low { AreLow self.old.labels.items }
         ensures kept { (site : PlainSite) (goal : CellNo → Bool) → IsSite site →
-            IsSearch site goal (has avoid.now) cell label row.now self.old.labels.items (heap_items self.old.open) →
-            OnOk result (IsSettled site goal (has avoid.now) self.new.labels.items (heap_items self.new.open)) }
+            IsSearch site goal (has avoid.now) cell label row.now self.old.labels.items (heap_items self.old.queue) →
+            OnOk result (IsSettled site goal (has avoid.now) self.new.labels.items (heap_items self.new.queue)) }
         ensures long { length self.new.labels.items ≡ length self.old.labels.items }
         ensures low { AreLow self.new.labels.items }
-        ensures nearer { OnOk result (work self.new.labels.items (heap_items self.new.open) ≤ work self.old.labels.items (heap_items self.old.open)) }
+        ensures nearer { OnOk result (work self.new.labels.items (heap_items self.new.queue) ≤ work self.old.labels.items (heap_items self.old.queue)) }
     {
         for entry in row {
             if !avoid.holds(entry.from) {
@@ -135,12 +135,12 @@ impl Search {
     // Lowers the label of a cell to this one, where that is less.
     fn lower(&mut self, cell: CellNo, label: u64) -> Result<(), AllocError>
         requires { cell.0 < length self.old.labels.items }
-        ensures lowered { OnOk result (IsLowered cell label self.old.labels.items (heap_items self.old.open) self.new.labels.items (heap_items self.new.open)) }
+        ensures lowered { OnOk result (IsLowered cell label self.old.labels.items (heap_items self.old.queue) self.new.labels.items (heap_items self.new.queue)) }
         ensures kept { OnErr result (self.new.labels.items ≡ self.old.labels.items) }
     {
         let at = cell.0 as usize;
         if self.labels[at].is_none_or(|old| label < old) {
-            self.open.push(Reverse((label, cell.0)))?;
+            self.queue.push(Reverse((label, cell.0)))?;
             self.labels[at] = Some(label);
         }
         Ok(())

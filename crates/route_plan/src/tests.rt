@@ -5,11 +5,13 @@ ghost use Rattle.std.specs.Prelude.{◌<◌};
 use crate::cell_set::CellSet;
 use crate::checker::check_route;
 use crate::finder::least_route;
+use crate::goals::goal_set;
 use crate::refused::RouteRefused;
 use crate::route::Route;
 use fleet_base::numbers::CellNo;
 use fleet_base::path::{NoMemory, Path};
 use site_map::builder::SiteBuilder;
+use site_map::goal::Goal;
 use site_map::refused::BuildRefused;
 use site_map::site::Site;
 use std::alloc::Global;
@@ -141,5 +143,33 @@ fn way_round_and_no_way_are_found(rt: HostRuntime) -> Result<(), Fail> {
     assert_eq!(rt; stay.cells(), [CellNo(0)].as_slice());
     let none = found(3, 0, &CellSet::new(), rt.alloc());
     assert!(rt; matches!(none, Err(RouteRefused::Unreachable)));
+    Ok(())
+}
+
+// Whether the cell of this number is in the set.
+fn holds(set: &CellSet, number: u32) -> bool {
+    number < 1_024 && set.holds(CellNo(number))
+}
+
+#[test]
+fn a_goal_is_the_set_of_its_cells(rt: HostRuntime) -> Result<(), Fail> {
+    let mut builder = SiteBuilder::new(rt.alloc());
+    for _ in 0..4u32 {
+        builder.cell()?;
+    }
+    builder.area(&[CellNo(3), CellNo(1)])?;
+    let site = builder.finish();
+    assert!(rt; site.cell_count() == 4 && site.area_count() == 1);
+    let cell = goal_set(&site, Goal::Cell(CellNo(2)));
+    let area = goal_set(&site, Goal::Area(0));
+    for (number, in_cell, in_area) in [
+        (0, false, false),
+        (1, false, true),
+        (2, true, false),
+        (3, false, true),
+    ] {
+        assert_eq!(rt; holds(&cell, number), in_cell);
+        assert_eq!(rt; holds(&area, number), in_area);
+    }
     Ok(())
 }

@@ -1,6 +1,7 @@
 pub mod Accepted
 pub mod Fines
 pub mod Fronts
+pub mod FrontSizes
 pub mod Lanes
 pub mod Links
 pub mod Loops

@@ -1,14 +1,9 @@
 -- How many links a site has after each change.
-use Rattle.std.proofs.Common.{◌≡◌, ◌≢◌, ℕ, zero, suc, ◌+◌, ◌<◌, List, [], ◌∷◌, ◌++◌, length, get_or, set, refl, ap, arith}
+use Rattle.std.proofs.Common.{◌≡◌, ◌≢◌, ℕ, zero, suc, ◌+◌, ◌<◌, List, [], ◌∷◌, length, get_or, set, refl, ap, arith}
 use Rattle.fleet_base.specs.declared.numbers.Link.{Link}
 use Rattle.site_map.specs.Built.{link_total}
 use Rattle.site_map.specs.Cells.{with_one_more}
 use Rattle.site_map.proofs.LinkLemmas.{length-with_one_more}
-
--- one more cell has no links
-pub link_total-cell : (rows : List (List Link)) → link_total (rows ++ [] ∷ []) ≡ link_total rows
-link_total-cell [] = refl
-link_total-cell (row ∷ rows) = ap (λ n. length row + n) (link_total-cell rows)
 
 -- one more link
 pub link_total-link : (rows : List (List Link)) (i : ℕ) (link : Link) → i < length rows → link_total (set rows i (with_one_more (get_or rows i []) link)) ≡ link_total rows + 1

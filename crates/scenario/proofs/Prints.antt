@@ -7,10 +7,9 @@ use Rattle.std.proofs.lemmas.List.{append-nil}
 use Rattle.std.proofs.lemmas.List.Concat.{flat_map-append}
 use Rattle.fleet_base.specs.declared.numbers.CellNo.{CellNo}
 use Rattle.fleet_base.specs.declared.numbers.ClaimNo.{ClaimNo}
-use Rattle.fleet_model.specs.Lists.{numbers_below}
+use Rattle.fleet_model.specs.Lists.{numbers_below, has_cell}
 use Rattle.fleet_model.specs.Sites.{footprint_of}
 use Rattle.site_map.specs.Built.{BuiltSite, crossing_at, crossings_with, no_crossing}
-use Rattle.site_map.specs.Cells.{has_cell}
 use Rattle.site_map.specs.Claims.{claims_from, footprint_in, site_of}
 use Rattle.site_map.specs.Crossings.{BuiltCrossing, claim_count_of, crossing_claims, flow_of}
 use Rattle.site_map.proofs.CellLemmas.{numbers_below_push}

@@ -3,6 +3,7 @@ use Rattle.std.specs.Prelude.{ℕ, ◌+◌, Bool, false, not, ◌&&◌, ◌||◌
 use Rattle.std.specs.List.{list_all, list_any}
 use Rattle.std.specs.Option.{is_some, unwrap_or}
 use Rattle.std.specs.Str.Parse.{digits_value}
+use Rattle.fleet_model.specs.Lists.{has_cell}
 use Rattle.fleet_base.specs.declared.limits.TheConstants.{MAX_AREAS, MAX_CELLS, MAX_COST, MAX_CROSSINGS, MAX_CROSSINGS_OF_CELL, MAX_LINKS}
 use Rattle.fleet_base.specs.declared.numbers.CellNo.{CellNo}
 use Rattle.fleet_names.specs.declared.thing.Thing.{Thing}
@@ -14,7 +15,7 @@ use Rattle.site_lines.specs.declared.fault.Code.TheVariants.{S7, S8, S9, S10, S1
 use Rattle.site_lines.specs.Numbers.{is_number}
 use Rattle.site_lines.specs.Readings.{Row}
 use Rattle.site_map.specs.Built.{BuiltSite, crossing_at, crossings_with, link_total, links_at, with_area, with_cell, with_crossing, with_flow, with_link}
-use Rattle.site_map.specs.Cells.{has_cell, has_repeat}
+use Rattle.site_map.specs.Cells.{has_repeat}
 use Rattle.site_map.specs.Crossings.{in_flow}
 use Rattle.site_map.specs.Refusals.{has_too_many_claims}
 use Rattle.scenario.specs.States.{Declared}

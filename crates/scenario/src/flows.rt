@@ -1,7 +1,7 @@
 // Which flow of a crossing a cell is in.
 ghost use Rattle.std.specs.Prelude.{◌≡◌, ◌<◌, ◌+◌, ◌++◌, ◌∷◌, [], true, if◌then◌else◌, length, take, IfOk, OnOk};
+ghost use Rattle.fleet_model.specs.Lists.{has_cell};
 ghost use Rattle.site_map.specs.Built.{crossing_at, crossings_with};
-ghost use Rattle.site_map.specs.Cells.{has_cell};
 ghost use Rattle.site_map.specs.Crossings.{crossing_claims, flow_of};
 ghost use Rattle.scenario.specs.Canonical.{cells_of_flow};
 

@@ -1,10 +1,11 @@
 // What the site lines declare.
 ghost use Rattle.std.specs.Prelude.{◌≡◌, ◌<◌, ◌≤◌, ◌||◌, ◌==◌, ◌+◌, true, false, not, nat_le, nat_lt, [], ◌∷◌, length, IfOk, IfErr, OnOk, OnErr};
 ghost use Rattle.std.specs.List.{list_any};
+ghost use Rattle.fleet_model.specs.Lists.{has_cell};
 ghost use Rattle.fleet_base.specs.declared.limits.TheConstants.{MAX_AREAS, MAX_CELLS, MAX_COST, MAX_CROSSINGS, MAX_CROSSINGS_OF_CELL, MAX_LINKS};
 ghost use Rattle.site_lines.specs.declared.fault.Code.TheVariants.{S12, S13, S14, S15, S23};
 ghost use Rattle.site_map.specs.Built.{completed_site, crossing_at, crossings_with, link_total, with_area, with_crossing, with_flow, with_link};
-ghost use Rattle.site_map.specs.Cells.{are_known, has_cell, has_repeat};
+ghost use Rattle.site_map.specs.Cells.{are_known, has_repeat};
 ghost use Rattle.site_map.specs.Crossings.{in_flow};
 ghost use Rattle.site_map.specs.Refusals.{has_too_many_claims};
 ghost use Rattle.scenario.specs.Scenarios.{NamesAll};

@@ -4,6 +4,7 @@ use Rattle.std.specs.List.{cons_option, list_all}
 use Rattle.std.specs.Option.{is_some}
 use Rattle.std.specs.Str.Parse.{digits_value}
 use Rattle.std.proofs.lemmas.Bool.{and_from, and_parts, eqb-false, false≢true, le-leb, leb-true, ne_eqb, not-false, not_from_true, or_from, or_parts}
+use Rattle.fleet_model.specs.Lists.{has_cell}
 use Rattle.fleet_base.specs.declared.numbers.CellNo.{CellNo}
 use Rattle.fleet_base.specs.declared.numbers.Link.{Link}
 use Rattle.fleet_names.specs.declared.thing.Thing.{Thing}
@@ -12,7 +13,7 @@ use Rattle.fleet_names.specs.Names.{Named, is_name, thing_of}
 use Rattle.fleet_names.proofs.Finding.{none_is}
 use Rattle.site_lines.specs.Numbers.{is_number}
 use Rattle.site_map.specs.Built.{BuiltSite, links_at}
-use Rattle.site_map.specs.Cells.{has_cell, has_repeat}
+use Rattle.site_map.specs.Cells.{has_repeat}
 use Rattle.scenario.specs.SiteLines.{are_cells, as_cell, as_crossing, cell_named, cells_named, crossing_named, has_link, is_out_of, is_taken}
 use Rattle.scenario_grammar.specs.Grammar.{Denotes, DenoteCells, Differ, HasNoLink, IsNew, IsNumber, Word}
 use Rattle.scenario_grammar.proofs.Rows.{each_fails, fails_each}

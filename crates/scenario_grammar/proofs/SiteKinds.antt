@@ -3,12 +3,13 @@ use Rattle.std.proofs.Common.{◌≡◌, ℕ, ◌+◌, ◌<◌, ◌≤◌, Bool,
 use Rattle.std.specs.List.{list_all, list_any}
 use Rattle.std.specs.Option.{is_some, unwrap_or}
 use Rattle.std.proofs.lemmas.Bool.{and_from, and_parts, le-ltb, leb-false, lt-leb, ltb-false, not-false, not_from_true, or_from, or_parts}
+use Rattle.fleet_model.specs.Lists.{has_cell}
 use Rattle.fleet_base.specs.declared.numbers.CellNo.{CellNo}
 use Rattle.fleet_names.specs.declared.thing.Thing.TheVariants.{Crossing}
 use Rattle.fleet_names.specs.Names.{Named, is_name}
 use Rattle.site_lines.specs.Readings.{Row}
 use Rattle.site_map.specs.Built.{crossing_at, crossings_with, with_crossing, with_flow}
-use Rattle.site_map.specs.Cells.{has_cell, has_repeat}
+use Rattle.site_map.specs.Cells.{has_repeat}
 use Rattle.site_map.specs.Crossings.{completed, crossing_claims, in_flow}
 use Rattle.site_map.specs.Refusals.{has_too_many_claims}
 use Rattle.scenario.specs.SiteLines.{are_cells, area_line, area_rows, cell_line, cell_rows, cells_named, crossing_line, crossing_named, crossing_rows, flow_line, flow_rows, has_taken, is_taken, new_set_rows, old_set_rows, with_cell_name, with_cell_names, with_cells}

@@ -2,6 +2,7 @@
 use Rattle.std.specs.Prelude.{◌≡◌, ◌≢◌, ◌⊎◌, ℕ, zero, suc, ◌+◌, ◌<◌, ◌≤◌, Bool, true, false, List, [], ◌∷◌, ◌++◌, codes, filter, length, map, slice_index_or, slice_set, Some, None}
 use Rattle.std.specs.List.{AllByRecursion, AllZip}
 use Rattle.std.specs.Str.Parse.{digits_value}
+use Rattle.fleet_model.specs.Lists.{has_cell}
 use Rattle.fleet_base.specs.declared.limits.TheConstants.{MAX_AREAS, MAX_CELLS, MAX_COST, MAX_CROSSINGS, MAX_CROSSINGS_OF_CELL, MAX_LEGS, MAX_LINE, MAX_LINKS, MAX_ROBOTS}
 use Rattle.fleet_base.specs.declared.numbers.CellNo.{CellNo}
 use Rattle.fleet_names.specs.declared.thing.Thing.{Thing}
@@ -12,7 +13,6 @@ use Rattle.site_lines.specs.Lines.{input_lines}
 use Rattle.site_lines.specs.Numbers.{is_number}
 use Rattle.site_lines.specs.Words.{before_comment, words_of}
 use Rattle.site_map.specs.Built.{BuiltSite, completed_site, crossing_at, crossings_with, link_total, links_at, with_area, with_cell, with_crossing, with_flow, with_link}
-use Rattle.site_map.specs.Cells.{has_cell}
 use Rattle.site_map.specs.Crossings.{completed, crossing_claims, in_flow}
 use Rattle.site_map.specs.declared.goal.Goal.{Goal}
 use Rattle.site_map.specs.declared.goal.Goal.TheVariants as goals

@@ -6,9 +6,9 @@ use Rattle.std.proofs.lemmas.Bool.{false≢true, lt-leb, not_from_true}
 use Rattle.std.proofs.lemmas.List.{map-append, take_all, take_more}
 use Rattle.std.proofs.lemmas.List.Elements.{All-get_or, All-head, All-tail, All-take, All-weaker}
 use Rattle.std.proofs.lemmas.List.Folds.{list_any_none, map_fixed}
+use Rattle.fleet_model.specs.Lists.{has_cell}
 use Rattle.fleet_base.specs.declared.numbers.CellNo.{CellNo}
 use Rattle.site_map.specs.Built.{BuiltSite, crossings_with, no_crossing}
-use Rattle.site_map.specs.Cells.{has_cell}
 use Rattle.site_map.specs.Crossings.{BuiltCrossing, claim_count_of, completed, crossing_claims, flows_with_rest, in_flow, rest_of}
 use Rattle.site_map.specs.Valid.{IsCrossingIn, IsValidSite}
 use Rattle.site_map.proofs.CellLemmas.{All_has, has_each}

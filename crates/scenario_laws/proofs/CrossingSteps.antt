@@ -8,14 +8,14 @@ use Rattle.std.proofs.lemmas.List.{get_or_at, get_or-take, length-map, length-ta
 use Rattle.std.proofs.lemmas.List.Elements.{All-from_get_or, All-get_or, All-weaker}
 use Rattle.std.proofs.lemmas.List.Folds.{list_any_none}
 use Rattle.fleet_base.specs.declared.numbers.CellNo.{CellNo}
-use Rattle.fleet_model.specs.Lists.{numbers_below}
+use Rattle.fleet_model.specs.Lists.{numbers_below, has_cell}
 use Rattle.fleet_names.specs.declared.thing.Thing.{Thing}
 use Rattle.fleet_names.specs.declared.thing.Thing.TheVariants as things
 use Rattle.fleet_names.specs.Things.{is_crossing}
 use Rattle.fleet_names.specs.Names.{Named, count_of, is_name, thing_of}
 use Rattle.site_lines.specs.declared.fault.Code.{Code}
 use Rattle.site_map.specs.Built.{BuiltSite, crossing_at, no_crossing, with_crossing, with_flow}
-use Rattle.site_map.specs.Cells.{has_cell, in_order}
+use Rattle.site_map.specs.Cells.{in_order}
 use Rattle.site_map.specs.Crossings.{BuiltCrossing, completed, crossing_claims, in_flow, with_line}
 use Rattle.site_map.specs.Refusals.{has_too_many_claims}
 use Rattle.site_map.specs.Valid.{IsCrossingIn}

@@ -1,28 +1,28 @@
 -- What a site keeps while its lines are read, and that it is valid once it is closed.
-use Rattle.std.proofs.Common.{◌≡◌, ⊎_elim, ℕ, zero, suc, ◌+◌, ◌<◌, ◌≤◌, Bool, true, false, cond, not, ◌||◌, eqb, leb, List, [], ◌∷◌, ◌++◌, length, map, get_or, set, refl, sym, ap, subst, ◌∙◌, arith}
+use Rattle.std.proofs.Common.{◌≡◌, ⊎_elim, ℕ, zero, suc, ◌+◌, ◌<◌, ◌≤◌, Bool, true, false, cond, not, ◌&&◌, ◌||◌, eqb, leb, List, [], ◌∷◌, length, map, get_or, set, refl, sym, ap, subst, ◌∙◌, arith}
 use Rattle.std.specs.Prelude.{All}
-use Rattle.std.specs.List.{filter, list_any}
-use Rattle.std.proofs.lemmas.Bool.{and_from, cases_Bool, cases_eq, cases_lt, false≢true, leb-false, ltb-false, ne_eqb, not-false, not-true, not_from_false, or_parts}
+use Rattle.std.specs.List.{list_any}
+use Rattle.std.proofs.lemmas.Bool.{cases_Bool, cases_eq, cases_lt, false≢true, leb-false, ltb-false, not-false, or_parts}
 use Rattle.std.proofs.lemmas.List.{get_or-set_other, get_or-set_same, length-map, length-set, length_push}
-use Rattle.std.proofs.lemmas.List.Elements.{All-cons, All-filter, All-get_or, All-head, All-map, All-nil, All-push, All-set, All-tail, All-weaker, filter_passes}
+use Rattle.std.proofs.lemmas.List.Elements.{All-cons, All-get_or, All-head, All-map, All-nil, All-push, All-set, All-tail, All-weaker}
 use Rattle.std.proofs.lemmas.List.Folds.{list_any_none}
-use Rattle.std.proofs.lemmas.List.Quantifiers.{all_pairs_push}
+use Rattle.fleet_model.specs.Lists.{has_cell}
 use Rattle.fleet_base.specs.declared.limits.TheConstants.{MAX_AREAS, MAX_CELLS, MAX_COST, MAX_CROSSINGS, MAX_CROSSINGS_OF_CELL, MAX_LINKS}
 use Rattle.fleet_base.specs.declared.numbers.CellNo.{CellNo}
 use Rattle.fleet_base.specs.declared.numbers.Link.{Link}
 use Rattle.site_map.specs.declared.refused.TheConstants.{MAX_CROSSING_CLAIMS}
 use Rattle.site_map.specs.Built.{BuiltSite, completed_site, crossing_at, crossings_with, link_total, no_crossing, no_site, with_area, with_cell, with_crossing, with_flow, with_link}
-use Rattle.site_map.specs.Cells.{are_known, CellsRise, has_cell, in_order, with_one_more}
-use Rattle.site_map.specs.Crossings.{BuiltCrossing, completed, crossing_claims, flows_with_rest, in_flow, IsFlow, rest_of, with_line}
+use Rattle.site_map.specs.Cells.{are_known, in_order, with_one_more}
+use Rattle.site_map.specs.Crossings.{BuiltCrossing, completed, crossing_claims, in_flow, with_line}
 use Rattle.site_map.specs.Inside.{AreCells, AreLines, AreLinks}
 use Rattle.site_map.specs.Refusals.{has_too_many_claims}
 use Rattle.site_map.specs.Valid.{IsCrossingIn, is_looped, IsValidSite}
-use Rattle.site_map.proofs.BuilderLemmas.{flow_lacks}
-use Rattle.site_map.proofs.CellLemmas.{AreCells-in_order, has_cell-filter, has_cell-in_order, has_each, none_has}
-use Rattle.site_map.proofs.CrossingLemmas.{in_flow_push, is_rest}
+use Rattle.site_map.proofs.BuilderLemmas.{AreCells-grown, AreLines-line, AreLines-none, AreLinks-grown, AreLinks-none, get_or_blank, link_total_push, missing}
+use Rattle.site_map.proofs.CellLemmas.{AreCells-in_order, has_cell-in_order, none_has}
 use Rattle.site_map.proofs.LinkLemmas.{All-with_one_more, LinksRise-with_one_more}
+use Rattle.site_map.proofs.ValidLemmas.{crossings_in, crossings_with-completed}
 use Rattle.scenario.specs.SiteLines.{has_link}
-use Rattle.scenario.proofs.Links.{link_total-cell, link_total-link}
+use Rattle.scenario.proofs.Links.{link_total-link}
 use Rattle.scenario_laws.proofs.CrossingFacts.{with_append}
 
 -- the parts of a site are valid, and its flows are lines that the rest will complete
@@ -57,24 +57,6 @@ no_part = record {
 }
 
 -- a cell more
-cells_grown : (n : ℕ) (cells : List CellNo) → AreCells n cells → AreCells (n + 1) cells
-cells_grown n cells are = record { rise = are.rise; known = All-weaker (λ c. c.0 < n) (λ c. c.0 < n + 1) (λ c h. omega arith) cells are.known; some = are.some }
-
-links_grown : (n : ℕ) (links : List Link) → AreLinks n links → AreLinks (n + 1) links
-links_grown n links are = record { rise = are.rise; known = All-weaker (λ l. l.to.0 < n) (λ l. l.to.0 < n + 1) (λ l h. omega arith) links are.known; costs = are.costs }
-
-no_links : (n : ℕ) → AreLinks n []
-no_links n = record { rise = tt; known = All-nil (λ l. l.to.0 < n); costs = All-nil (λ l. (1 ≤ l.cost) × (l.cost ≤ MAX_COST)) }
-
-row_blank : (rows : List (List Link)) (c : ℕ) → get_or (rows ++ [] ∷ []) c [] ≡ get_or rows c []
-row_blank [] zero = refl
-row_blank [] (suc c) = refl
-row_blank (row ∷ rows) zero = refl
-row_blank (row ∷ rows) (suc c) = row_blank rows c
-
-lacks_new : (n : ℕ) (cells : List CellNo) (c : CellNo) → AreCells n cells → n ≤ c.0 → has_cell cells c ≡ false
-lacks_new n cells c are past = list_any_none (λ d. eqb d.0 c.0) cells (All-weaker (λ d. d.0 < n) (λ d. eqb d.0 c.0 ≡ false) (λ d h. ne_eqb d.0 c.0 (λ same. absurd (omega arith))) cells are.known)
-
 one_or_none : (b : Bool) → (let n : ℕ = cond b 1 0 in n ≤ 1)
 one_or_none true = omega arith
 one_or_none false = omega arith
@@ -87,33 +69,30 @@ crossed_by_none : (n : ℕ) (xs : List BuiltCrossing) (c : CellNo) → All (λ x
 crossed_by_none n [] c all past = refl
 crossed_by_none n (x ∷ xs) c all past =
     let rest = crossed_by_none n xs c (All-tail (λ y. AreCells n y.cells) x xs all) past in
-    let none = no_one (has_cell x.cells c) (lacks_new n x.cells c (All-head (λ y. AreCells n y.cells) x xs all) past) in
+    let none = no_one (has_cell x.cells c) (missing n x.cells c (All-head (λ y. AreCells n y.cells) x xs all) past) in
     omega arith
 
 pub cell_part : (site : BuiltSite) → IsPart site → site.cells < 1024 → IsPart (with_cell site)
 cell_part site part room = record {
   few_cells = omega arith;
-  few_links = let same = link_total-cell site.links in let few = part.few_links in omega arith;
+  few_links = let same = link_total_push site.links in let few = part.few_links in omega arith;
   few_crossings = part.few_crossings;
   few_areas = part.few_areas;
   few_claims = part.few_claims;
   rows = let long = length_push site.links [] in let all = part.rows in omega arith;
-  linked = All-push (AreLinks (site.cells + 1)) site.links [] (All-weaker (AreLinks site.cells) (AreLinks (site.cells + 1)) (links_grown site.cells) site.links part.linked) (no_links (site.cells + 1));
-  unlooped = λ c. ap (λ (ls : List Link). list_any (λ l. eqb l.to.0 c.0) ls) (row_blank site.links c.0) ∙ part.unlooped c;
-  crossed = All-weaker (λ x. AreCells site.cells x.cells) (λ x. AreCells (site.cells + 1) x.cells) (λ x are. cells_grown site.cells x.cells are) site.crossings part.crossed;
+  linked = All-push (AreLinks (site.cells + 1)) site.links [] (All-weaker (AreLinks site.cells) (AreLinks (site.cells + 1)) (AreLinks-grown site.cells) site.links part.linked) (AreLinks-none (site.cells + 1));
+  unlooped = λ c. ap (λ (ls : List Link). list_any (λ l. eqb l.to.0 c.0) ls) (get_or_blank site.links c.0) ∙ part.unlooped c;
+  crossed = All-weaker (λ x. AreCells site.cells x.cells) (λ x. AreCells (site.cells + 1) x.cells) (λ x are. AreCells-grown site.cells x.cells are) site.crossings part.crossed;
   lined = part.lined;
   twice = λ c known.
       ⊎_elim
       (λ below. part.twice c below)
       (λ past. let none = crossed_by_none site.cells site.crossings c part.crossed past in omega arith)
       (cases_lt c.0 site.cells);
-  gathered = All-weaker (AreCells site.cells) (AreCells (site.cells + 1)) (cells_grown site.cells) site.areas part.gathered;
+  gathered = All-weaker (AreCells site.cells) (AreCells (site.cells + 1)) (AreCells-grown site.cells) site.areas part.gathered;
 }
 
 -- a crossing more
-no_lines : (cells : List CellNo) → AreLines (record { cells = cells; flows = [] })
-no_lines cells = record { flows = All-nil (IsFlow cells); apart = λ i j d below within. absurd (omega arith) }
-
 crossed_more : (site : BuiltSite) (cells : List CellNo) (c : CellNo) → IsPart site → are_known site.cells cells ≡ true → list_any (λ d. leb 2 (crossings_with site.crossings d)) cells ≡ false → c.0 < site.cells
     → crossings_with (with_crossing site cells).crossings c ≤ 2
 crossed_more site cells c part known free below =
@@ -144,7 +123,7 @@ crossing_part site cells part known some room free =
       linked = part.linked;
       unlooped = part.unlooped;
       crossed = All-push (λ x. AreCells site.cells x.cells) site.crossings new part.crossed (AreCells-in_order site.cells cells known some);
-      lined = All-push AreLines site.crossings new part.lined (no_lines (in_order site.cells cells));
+      lined = All-push AreLines site.crossings new part.lined (AreLines-none (in_order site.cells cells));
       twice = λ c below. crossed_more site cells c part known free below;
       gathered = part.gathered;
     }
@@ -175,19 +154,9 @@ crossed_same (x ∷ xs) (suc k) y c same within = ap (λ n. cond (has_cell x.cel
 -- a line of cells of the crossing that are in no flow yet
 line_part : (n : ℕ) (x : BuiltCrossing) (cells : List CellNo) → AreLines x → are_known n cells ≡ true → 0 < length cells → list_any (λ c. not (has_cell x.cells c) || in_flow x.flows c) cells ≡ false → AreLines (with_line x (in_order n cells))
 line_part n x cells lines known some free =
-    let line : List CellNo = in_order n cells in
-    let are = AreCells-in_order n cells known some in
-    let own : (c : CellNo) → has_cell line c ≡ true → (not (has_cell x.cells c) ≡ false) × (in_flow x.flows c ≡ false) =
-    λ c has. or_parts (not (has_cell x.cells c)) (in_flow x.flows c) (none_has (λ d. not (has_cell x.cells d) || in_flow x.flows d) cells c free (sym (has_cell-in_order n cells c known) ∙ has)) in
-    record {
-      flows = All-push (IsFlow x.cells) x.flows line lines.flows (record {
-        some = are.some;
-        rise = are.rise;
-        within = All-weaker (λ c. has_cell line c ≡ true) (λ c. has_cell x.cells c ≡ true) (λ c has. not-false (has_cell x.cells c) (own c has).0) line (has_each line);
-      });
-      apart = all_pairs_push (λ flow other. All (λ c. has_cell flow c ≡ false) other) x.flows line lines.apart
-          (λ k d within. All-weaker (λ c. has_cell line c ≡ true) (λ c. has_cell (get_or x.flows k d) c ≡ false) (λ c has. flow_lacks x.flows c k d within (own c has).1) line (has_each line));
-    }
+    AreLines-line n x (in_order n cells) lines (AreCells-in_order n cells known some) (λ c has.
+    let own = or_parts (not (has_cell x.cells c)) (in_flow x.flows c) (none_has (λ d. not (has_cell x.cells d) || in_flow x.flows d) cells c free (sym (has_cell-in_order n cells c known) ∙ has)) in
+    ap (λ b. b && not (in_flow x.flows c)) (not-false (has_cell x.cells c) own.0) ∙ ap not own.1)
 
 pub flow_part : (site : BuiltSite) (k : ℕ) (cells : List CellNo) → IsPart site → k < length site.crossings → are_known site.cells cells ≡ true → 0 < length cells → has_too_many_claims (with_flow site k cells) ≡ false
     → list_any (λ c. not (has_cell (crossing_at site k).cells c) || in_flow (crossing_at site k).flows c) cells ≡ false → IsPart (with_flow site k cells)
@@ -251,77 +220,6 @@ link_part site from link part from_known to_known room other some few new =
     none_looped (l ∷ ls) n none = let parts = or_parts (eqb l.to.0 n) (list_any (λ m. eqb m.to.0 n) ls) none in All-cons (λ m. eqb m.to.0 n ≡ false) l ls parts.0 (none_looped ls n parts.1)
 
 -- the site is closed
-CellsRise-from : (low high : ℕ) (cells : List CellNo) → low ≤ high → CellsRise high cells → CellsRise low cells
-CellsRise-from low high [] upto rise = tt
-CellsRise-from low high (c ∷ cs) upto rise = (let above = rise.0 in omega arith, rise.1)
-
-CellsRise-some : (q : CellNo → Bool) (low : ℕ) (cells : List CellNo) → CellsRise low cells → CellsRise low (filter q cells)
-CellsRise-some q low [] rise = tt
-CellsRise-some q low (c ∷ cs) rise =
-    elim (q c) as (λ b. CellsRise low (cond b (c ∷ filter q cs) (filter q cs))) [
-      | true ↦ (rise.0, CellsRise-some q (c.0 + 1) cs rise.1)
-      | false ↦ (let above = rise.0 in CellsRise-from low (c.0 + 1) (filter q cs) (omega arith) (CellsRise-some q (c.0 + 1) cs rise.1))
-    ]
-
-module _ (n : ℕ) (cells : List CellNo) (are : AreCells n cells) where
-  -- with the rest as the last flow the flows share the cells out
-  with_rest : (flows : List (List CellNo)) (rest : List CellNo) → 0 < length flows → rest ≡ filter (is_rest flows) cells → AreLines (record { cells = cells; flows = flows }) → IsCrossingIn n (record { cells = cells; flows = flows_with_rest flows rest })
-  with_rest [] rest some is kept = absurd (omega arith)
-  with_rest (line ∷ lines) [] some is kept = record {
-    cells = are;
-    flows = kept.flows;
-    apart = kept.apart;
-    whole = λ c some has.
-        ⊎_elim
-        (λ there. there)
-        (λ out.
-        let left : has_cell [] c ≡ true = ap (λ cs. has_cell cs c) is ∙ has_cell-filter (is_rest (line ∷ lines)) cells c ∙ and_from (is_rest (line ∷ lines) c) (has_cell cells c) (not_from_false (in_flow (line ∷ lines) c) out) has in
-        absurd (false≢true left))
-        (cases_Bool (in_flow (line ∷ lines) c));
-  }
-  with_rest (line ∷ lines) (r ∷ rs) some is kept = record {
-    cells = are;
-    flows = All-push (IsFlow cells) (line ∷ lines) (r ∷ rs) kept.flows (record {
-      some = omega arith;
-      rise = subst (CellsRise 0) (sym is) (CellsRise-some (is_rest (line ∷ lines)) 0 cells are.rise);
-      within = subst (All (λ c. has_cell cells c ≡ true)) (sym is) (All-filter (is_rest (line ∷ lines)) (λ c. has_cell cells c ≡ true) cells (has_each cells));
-    });
-    apart = all_pairs_push (λ flow other. All (λ c. has_cell flow c ≡ false) other) (line ∷ lines) (r ∷ rs) kept.apart
-        (λ k d within.
-        subst (All (λ c. has_cell (get_or (line ∷ lines) k d) c ≡ false)) (sym is)
-        (All-weaker (λ c. is_rest (line ∷ lines) c ≡ true) (λ c. has_cell (get_or (line ∷ lines) k d) c ≡ false)
-        (λ c out. flow_lacks (line ∷ lines) c k d within (not-true (in_flow (line ∷ lines) c) out))
-        (filter (is_rest (line ∷ lines)) cells) (filter_passes (is_rest (line ∷ lines)) cells)));
-    whole = λ c some has.
-        in_flow_push (line ∷ lines) (r ∷ rs) c
-        ∙ ⊎_elim
-        (λ there. ap (λ b. b || has_cell (r ∷ rs) c) there)
-        (λ out.
-        let left : has_cell (r ∷ rs) c ≡ true = ap (λ cs. has_cell cs c) is ∙ has_cell-filter (is_rest (line ∷ lines)) cells c ∙ and_from (is_rest (line ∷ lines) c) (has_cell cells c) (not_from_false (in_flow (line ∷ lines) c) out) has in
-        ap (λ b. b || has_cell (r ∷ rs) c) out ∙ left)
-        (cases_Bool (in_flow (line ∷ lines) c));
-  }
-
-completed_in : (n : ℕ) (x : BuiltCrossing) → AreCells n x.cells → AreLines x → IsCrossingIn n (completed x)
-completed_in n x are kept = go x.flows refl
-  where
-    go : (flows : List (List CellNo)) → x.flows ≡ flows → IsCrossingIn n (completed x)
-    go [] none =
-        let same : completed x ≡ record { cells = x.cells; flows = [] } = ap (λ (flows : List (List CellNo)). let y : BuiltCrossing = record { cells = x.cells; flows = flows_with_rest flows (rest_of x) } in y) none in
-        subst (IsCrossingIn n) (sym same) (record { cells = are; flows = All-nil (IsFlow x.cells); apart = λ i j d below within. absurd (omega arith); whole = λ c some has. absurd (omega arith) })
-    go (line ∷ lines) some = with_rest n x.cells are x.flows (rest_of x) (let long = ap length some in omega arith) refl kept
-
-crossed_completed : (xs : List BuiltCrossing) (c : CellNo) → crossings_with (map completed xs) c ≡ crossings_with xs c
-crossed_completed [] c = refl
-crossed_completed (x ∷ xs) c = ap (λ n. cond (has_cell x.cells c) 1 0 + n) (crossed_completed xs c)
-
-all_completed : (n : ℕ) (xs : List BuiltCrossing) → All (λ x. AreCells n x.cells) xs → All AreLines xs → All (λ x. IsCrossingIn n (completed x)) xs
-all_completed n [] are kept = All-nil (λ x. IsCrossingIn n (completed x))
-all_completed n (x ∷ xs) are kept =
-    All-cons (λ y. IsCrossingIn n (completed y)) x xs
-    (completed_in n x (All-head (λ y. AreCells n y.cells) x xs are) (All-head AreLines x xs kept))
-    (all_completed n xs (All-tail (λ y. AreCells n y.cells) x xs are) (All-tail AreLines x xs kept))
-
 pub closed_part : (site : BuiltSite) → IsPart site → IsValidSite (completed_site site)
 closed_part site part = record {
   few_cells = part.few_cells;
@@ -332,7 +230,7 @@ closed_part site part = record {
   rows = part.rows;
   linked = part.linked;
   unlooped = part.unlooped;
-  crossed = All-map (IsCrossingIn site.cells) completed site.crossings (all_completed site.cells site.crossings part.crossed part.lined);
-  twice = λ c below. let same = crossed_completed site.crossings c in let most = part.twice c below in omega arith;
+  crossed = All-map (IsCrossingIn site.cells) completed site.crossings (crossings_in site.cells site.crossings part.crossed part.lined);
+  twice = λ c below. let same = crossings_with-completed site.crossings c in let most = part.twice c below in omega arith;
   gathered = part.gathered;
 }

@@ -5,8 +5,9 @@ use Rattle.std.specs.List.{filter, range_with_len}
 use Rattle.std.proofs.lemmas.Bool.{and_parts, and_from, cases_Bool, cases_eq, eq-eqb, eqb-true, false≢true, false_from_ne_true, ne_eqb, or_from}
 use Rattle.std.proofs.lemmas.List.Elements.{All-get_or, All-head, All-tail, All-weaker, filter_agree}
 use Rattle.std.proofs.lemmas.List.Sums.{passes_at_first, position_or_len_is}
+use Rattle.fleet_model.specs.Lists.{has_cell}
 use Rattle.fleet_base.specs.declared.numbers.CellNo.{CellNo}
-use Rattle.site_map.specs.Cells.{cells_below, CellsRise, has_cell, has_repeat, in_order}
+use Rattle.site_map.specs.Cells.{cells_below, CellsRise, has_repeat, in_order}
 use Rattle.site_map.specs.Crossings.{BuiltCrossing, flow_of, IsFlow}
 use Rattle.site_map.specs.Valid.{IsCrossingIn}
 use Rattle.site_map.proofs.CellLemmas.{All_has, to_cell}

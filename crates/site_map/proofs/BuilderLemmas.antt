@@ -1,7 +1,7 @@
 -- What each call of the builder leaves is kept as a site is.
 use Rattle.std.proofs.Common.{◌≡◌, ℕ, zero, suc, ◌+◌, ◌<◌, ◌≤◌, true, false, cond, not, ◌&&◌, ◌||◌, eqb, leb, ltb, inl, inr, List, [], ◌∷◌, ◌++◌, length, map, get_or, set, refl, sym, ap, subst, ◌∙◌, arith}
 use Rattle.std.proofs.Math.ListN.{get_or-append}
-use Rattle.std.specs.List.{list_any, All, AllPairs}
+use Rattle.std.specs.List.{list_any, All}
 use Rattle.std.specs.FinSet as set
 use Rattle.std.specs.Ordering.{nat_cmp}
 use Rattle.std.proofs.lemmas.Bool.{cases_Bool, cases_eq, cases_lt, ne_eqb, and_parts, not-true, or_from, or_parts, or_right, lt-leb, le-leb, lt-ltb, le-ltb}
@@ -9,13 +9,14 @@ use Rattle.std.proofs.lemmas.List.{map-append, length-map, length_push, length-s
 use Rattle.std.proofs.lemmas.List.Folds.{list_any_none}
 use Rattle.std.proofs.lemmas.List.Quantifiers.{all_pairs_push}
 use Rattle.std.proofs.lemmas.List.Elements.{All-push, All-nil, All-set, All-weaker, All-get_or}
+use Rattle.fleet_model.specs.Lists.{has_cell}
 use Rattle.fleet_base.specs.declared.numbers.CellNo.{CellNo}
 use Rattle.fleet_base.specs.declared.numbers.Link.{Link}
 use Rattle.fleet_base.specs.declared.limits.TheConstants.{MAX_COST}
 use Rattle.site_map.specs.declared.places.Places.{Places}
 use Rattle.site_map.specs.declared.places.Places.TheVariants.{Free}
-use Rattle.site_map.specs.Cells.{has_cell, with_one_more}
-use Rattle.site_map.specs.Crossings.{AreApart, BuiltCrossing, claim_count_of, completed, crossing_claims, in_flow, IsFlow, with_line}
+use Rattle.site_map.specs.Cells.{with_one_more}
+use Rattle.site_map.specs.Crossings.{BuiltCrossing, claim_count_of, completed, crossing_claims, in_flow, IsFlow, with_line}
 use Rattle.site_map.specs.Built.{crossings_with, link_total, no_crossing}
 use Rattle.site_map.specs.Inside.{AreCells, AreLines, AreLinks, AreNumbered, entered, IsKept, marked, places_from, places_list}
 use Rattle.site_map.proofs.CellLemmas.{has_each, list_any_agree_in}
@@ -24,29 +25,32 @@ use Rattle.site_map.proofs.CrossingLemmas.{claims_step}
 use Rattle.site_map.proofs.LinkLemmas.{LinksRise-with_one_more, All-with_one_more, length-with_one_more}
 use Rattle.site_map.proofs.PlaceLemmas.{length-places, places_none, places_push, places_same, places_marked}
 
-AreCells-grown : (n : ℕ) (cells : List CellNo) → AreCells n cells → AreCells (n + 1) cells
+-- what names cells of a site names some of a site with one cell more
+pub AreCells-grown : (n : ℕ) (cells : List CellNo) → AreCells n cells → AreCells (n + 1) cells
 AreCells-grown n cells are = record {
   rise = are.rise;
   known = All-weaker (λ c. c.0 < n) (λ c. c.0 < n + 1) (λ c h. omega arith) cells are.known;
   some = are.some;
 }
 
-AreLinks-grown : (n : ℕ) (links : List Link) → AreLinks n links → AreLinks (n + 1) links
+pub AreLinks-grown : (n : ℕ) (links : List Link) → AreLinks n links → AreLinks (n + 1) links
 AreLinks-grown n links are = record {
   rise = are.rise;
   known = All-weaker (λ l. l.to.0 < n) (λ l. l.to.0 < n + 1) (λ l h. omega arith) links are.known;
   costs = are.costs;
 }
 
-AreLinks-none : (n : ℕ) → AreLinks n []
+pub AreLinks-none : (n : ℕ) → AreLinks n []
 AreLinks-none n = record { rise = tt; known = All-nil (λ l. l.to.0 < n); costs = All-nil (λ l. (1 ≤ l.cost) × (l.cost ≤ MAX_COST)) }
 
-missing : (n : ℕ) (cells : List CellNo) (c : CellNo) → AreCells n cells → n ≤ c.0 → has_cell cells c ≡ false
+-- a cell that the site lacks is none of its cells
+pub missing : (n : ℕ) (cells : List CellNo) (c : CellNo) → AreCells n cells → n ≤ c.0 → has_cell cells c ≡ false
 missing n cells c are past =
     list_any_none (λ d. eqb d.0 c.0) cells
     (All-weaker (λ d. d.0 < n) (λ d. eqb d.0 c.0 ≡ false) (λ d h. ne_eqb d.0 c.0 (omega arith)) cells are.known)
 
-get_or_blank : (rows : List (List Link)) (c : ℕ) → get_or (rows ++ [] ∷ []) c [] ≡ get_or rows c []
+-- behind the last cell stand no links
+pub get_or_blank : (rows : List (List Link)) (c : ℕ) → get_or (rows ++ [] ∷ []) c [] ≡ get_or rows c []
 get_or_blank [] zero = refl
 get_or_blank [] (suc c) = refl
 get_or_blank (row ∷ rows) zero = refl
@@ -58,11 +62,11 @@ flow_lacks [] c k d within out = absurd (omega arith)
 flow_lacks (flow ∷ flows) c zero d within out = (or_parts (has_cell flow c) (in_flow flows c) out).0
 flow_lacks (flow ∷ flows) c (suc k) d within out = flow_lacks flows c k d (omega arith) (or_parts (has_cell flow c) (in_flow flows c) out).1
 
-AreLines-none : (cells : List CellNo) → AreLines (record { cells = cells; flows = [] })
+-- no lines, and lines of free cells, are flows that are apart
+pub AreLines-none : (cells : List CellNo) → AreLines (record { cells = cells; flows = [] })
 AreLines-none cells = record { flows = All-nil (IsFlow cells); apart = λ i j d below within. absurd (omega arith) }
 
--- lines of free cells stay flows that are apart
-AreLines-line : (n : ℕ) (x : BuiltCrossing) (line : List CellNo) → AreLines x → AreCells n line → ((c : CellNo) → has_cell line c ≡ true → (has_cell x.cells c && not (in_flow x.flows c)) ≡ true) → AreLines (with_line x line)
+pub AreLines-line : (n : ℕ) (x : BuiltCrossing) (line : List CellNo) → AreLines x → AreCells n line → ((c : CellNo) → has_cell line c ≡ true → (has_cell x.cells c && not (in_flow x.flows c)) ≡ true) → AreLines (with_line x line)
 AreLines-line n x line lines are free = record {
   flows = All-push (IsFlow x.cells) x.flows line lines.flows (record {
     some = are.some;
@@ -76,7 +80,8 @@ AreLines-line n x line lines are free = record {
       line (has_each line));
 }
 
-link_total_push : (rows : List (List Link)) → link_total (rows ++ [] ∷ []) ≡ link_total rows
+-- one more cell has no links
+pub link_total_push : (rows : List (List Link)) → link_total (rows ++ [] ∷ []) ≡ link_total rows
 link_total_push [] = refl
 link_total_push (row ∷ rows) = ap (λ n. length row + n) (link_total_push rows)
 

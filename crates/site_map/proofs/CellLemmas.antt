@@ -10,8 +10,8 @@ use Rattle.std.proofs.lemmas.List.{map-append, take_more, append-nil}
 use Rattle.std.proofs.lemmas.List.Folds.{list_any_at, list_any_more, list_any-append}
 use Rattle.std.proofs.lemmas.List.Elements.{All-nil, All-cons, All-head, All-tail, All-from_get_or, filter-append, filter_agree, All-weaker}
 use Rattle.fleet_base.specs.declared.numbers.CellNo.{CellNo}
-use Rattle.fleet_model.specs.Lists.{numbers_below}
-use Rattle.site_map.specs.Cells.{are_known, cells_below, has_cell, has_repeat, in_order, CellsRise}
+use Rattle.fleet_model.specs.Lists.{numbers_below, has_cell}
+use Rattle.site_map.specs.Cells.{are_known, cells_below, has_repeat, in_order, CellsRise}
 use Rattle.site_map.specs.Inside.{AreCells}
 
 pub eqb_turned : (a b : ℕ) → eqb a b ≡ eqb b a

@@ -1,5 +1,5 @@
 -- The claims of footprints are claims of the site.
-use Rattle.std.proofs.Common.{◌≡◌, ◌<◌, inl, inr, List, [], ◌∷◌, arith, subst, sym}
+use Rattle.std.proofs.Common.{◌<◌, inl, inr, List, [], ◌∷◌, arith, subst, sym}
 use Rattle.std.specs.List.{All}
 use Rattle.std.proofs.lemmas.Bool.{cases_lt}
 use Rattle.std.proofs.lemmas.List.Elements.{All-head, All-tail}

@@ -7,8 +7,8 @@ use Rattle.std.proofs.lemmas.Bool.{true≢false, false≢true, cases_Bool, or_pa
 use Rattle.std.proofs.lemmas.List.{length_push}
 use Rattle.std.proofs.lemmas.List.Folds.{list_any-append}
 use Rattle.std.proofs.lemmas.List.Elements.{All-weaker}
+use Rattle.fleet_model.specs.Lists.{has_cell}
 use Rattle.fleet_base.specs.declared.numbers.CellNo.{CellNo}
-use Rattle.site_map.specs.Cells.{has_cell}
 use Rattle.site_map.specs.Crossings.{BuiltCrossing, claim_count_of, completed, flows_with_rest, in_flow, with_line}
 use Rattle.site_map.specs.Inside.{IsCrossing}
 use Rattle.site_map.proofs.CellLemmas.{has_each, list_any_agree_in}

@@ -12,7 +12,7 @@ use Rattle.fleet_base.specs.declared.numbers.ClaimGroup.{ClaimGroup}
 use Rattle.fleet_base.specs.declared.numbers.ClaimNo.{ClaimNo}
 use Rattle.fleet_base.specs.declared.numbers.Link.{Link}
 use Rattle.fleet_base.specs.Lists.{placed, RiseFrom}
-use Rattle.fleet_model.specs.Lists.{numbers_below}
+use Rattle.fleet_model.specs.Lists.{numbers_below, has_cell}
 use Rattle.fleet_model.specs.Sites.{footprint_of, in_conflict, link_cost, links_from, IsSite}
 use Rattle.site_map.specs.declared.places.Place.{Place}
 use Rattle.site_map.specs.declared.places.Places.{Places}
@@ -20,7 +20,7 @@ use Rattle.site_map.specs.declared.places.Places.TheVariants.{Free}
 use Rattle.site_map.specs.declared.names.ClaimName.{ClaimName}
 use Rattle.site_map.specs.declared.names.ClaimName.TheVariants.{Cell, Crossing}
 use Rattle.fleet_model.proofs.Claims.{conflict_symmetric}
-use Rattle.site_map.specs.Cells.{cells_below, has_cell}
+use Rattle.site_map.specs.Cells.{cells_below}
 use Rattle.site_map.specs.Crossings.{BuiltCrossing, claim_count_of, completed, crossing_claims, flow_of, flows_with_rest, in_flow, rest_of}
 use Rattle.site_map.specs.Built.{BuiltSite, completed_site, no_crossing}
 use Rattle.site_map.specs.Claims.{cell_group, claim_total, claims_from, flow_names, footprint_in, groups_from, groups_of, is_alone, names_from, names_of, site_of}

@@ -1,19 +1,20 @@
 -- A finished site is valid.
-use Rattle.std.proofs.Common.{◌≡◌, ℕ, zero, suc, ◌+◌, ◌<◌, ◌≤◌, Bool, true, false, cond, not, ◌&&◌, ◌||◌, eqb, inl, inr, List, [], ◌∷◌, ◌++◌, length, map, get_or, refl, sym, ap, subst, ◌∙◌, arith}
-use Rattle.std.specs.List.{filter, list_any, All, AllPairs}
+use Rattle.std.proofs.Common.{◌≡◌, ℕ, ◌+◌, ◌≤◌, Bool, true, false, cond, ◌||◌, eqb, inl, inr, List, [], ◌∷◌, length, map, get_or, refl, sym, ap, subst, ◌∙◌, arith}
+use Rattle.std.specs.List.{filter, All}
 use Rattle.std.proofs.lemmas.Bool.{and_from, cases_Bool, false≢true, not-true, not_from_false}
 use Rattle.std.proofs.lemmas.List.{length-map}
 use Rattle.std.proofs.lemmas.List.Elements.{All-cons, All-filter, All-head, All-map, All-nil, All-push, All-tail, All-weaker, filter_passes}
 use Rattle.std.proofs.lemmas.List.Folds.{list_any_none}
 use Rattle.std.proofs.lemmas.List.Quantifiers.{all_pairs_push}
+use Rattle.fleet_model.specs.Lists.{has_cell}
 use Rattle.fleet_base.specs.declared.numbers.CellNo.{CellNo}
 use Rattle.fleet_base.specs.declared.numbers.Link.{Link}
 use Rattle.site_map.specs.declared.places.Places.{Places}
 use Rattle.site_map.specs.declared.places.Places.TheVariants.{Free}
-use Rattle.site_map.specs.Cells.{has_cell, CellsRise}
-use Rattle.site_map.specs.Crossings.{AreApart, BuiltCrossing, completed, crossing_claims, flows_with_rest, in_flow, IsFlow, rest_of}
+use Rattle.site_map.specs.Cells.{CellsRise}
+use Rattle.site_map.specs.Crossings.{BuiltCrossing, completed, flows_with_rest, in_flow, IsFlow, rest_of}
 use Rattle.site_map.specs.Built.{crossings_with}
-use Rattle.site_map.specs.Inside.{AreCells, AreLines, AreLinks, IsKept, places_list}
+use Rattle.site_map.specs.Inside.{AreCells, AreLines, IsKept}
 use Rattle.site_map.specs.Valid.{IsCrossingIn, IsValidSite}
 use Rattle.site_map.proofs.BuilderLemmas.{crowded, flow_lacks}
 use Rattle.site_map.proofs.CellLemmas.{has_cell-filter, has_each}
@@ -82,14 +83,16 @@ completed_in n cells [] are kept = record {
 completed_in n cells (line ∷ lines) are kept =
     with_rest n cells are line lines (rest_of (record { cells = cells; flows = line ∷ lines })) refl kept
 
-crossings_in : (n : ℕ) (xs : List BuiltCrossing) → All (λ x. AreCells n x.cells) xs → All AreLines xs → All (λ x. IsCrossingIn n (completed x)) xs
+-- each crossing is given its last flow
+pub crossings_in : (n : ℕ) (xs : List BuiltCrossing) → All (λ x. AreCells n x.cells) xs → All AreLines xs → All (λ x. IsCrossingIn n (completed x)) xs
 crossings_in n [] are kept = All-nil (λ x. IsCrossingIn n (completed x))
 crossings_in n (x ∷ xs) are kept =
     All-cons (λ x. IsCrossingIn n (completed x)) x xs
     (completed_in n x.cells x.flows (All-head (λ y. AreCells n y.cells) x xs are) (All-head AreLines x xs kept))
     (crossings_in n xs (All-tail (λ y. AreCells n y.cells) x xs are) (All-tail AreLines x xs kept))
 
-crossings_with-completed : (xs : List BuiltCrossing) (c : CellNo) → crossings_with (map completed xs) c ≡ crossings_with xs c
+-- that doesn't change which crossings a cell is in
+pub crossings_with-completed : (xs : List BuiltCrossing) (c : CellNo) → crossings_with (map completed xs) c ≡ crossings_with xs c
 crossings_with-completed [] c = refl
 crossings_with-completed (x ∷ xs) c = ap (λ n. cond (has_cell x.cells c) 1 0 + n) (crossings_with-completed xs c)
 

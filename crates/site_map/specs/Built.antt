@@ -1,8 +1,9 @@
 -- What a site was built of, and what each call adds to it.
 use Rattle.std.specs.Prelude.{ℕ, ◌+◌, if◌then◌else◌, List, [], ◌∷◌, ◌++◌, map, length, slice_index_or, slice_set}
+use Rattle.fleet_model.specs.Lists.{has_cell}
 use Rattle.fleet_base.specs.declared.numbers.CellNo.{CellNo}
 use Rattle.fleet_base.specs.declared.numbers.Link.{Link}
-use Rattle.site_map.specs.Cells.{has_cell, in_order, with_one_more}
+use Rattle.site_map.specs.Cells.{in_order, with_one_more}
 use Rattle.site_map.specs.Crossings.{BuiltCrossing, completed, with_line}
 
 -- the number of cells, the crossings, the cells of each area, and for each cell the links from it

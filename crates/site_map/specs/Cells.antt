@@ -1,13 +1,9 @@
 -- Lists of cells, and of the links of a cell.
-use Rattle.std.specs.Prelude.{ℕ, ◌+◌, ◌≤◌, Bool, false, ◌==◌, ◌||◌, nat_lt, if◌then◌else◌, List, [], ◌∷◌, map}
-use Rattle.std.specs.List.{filter, list_any, list_all}
+use Rattle.std.specs.Prelude.{ℕ, ◌+◌, ◌≤◌, Bool, false, ◌||◌, nat_lt, if◌then◌else◌, List, [], ◌∷◌, map}
+use Rattle.std.specs.List.{filter, list_all}
 use Rattle.fleet_base.specs.declared.numbers.CellNo.{CellNo}
 use Rattle.fleet_base.specs.declared.numbers.Link.{Link}
-use Rattle.fleet_model.specs.Lists.{numbers_below}
-
--- the cell is one of these
-abbrev pub has_cell : List CellNo → CellNo → Bool
-has_cell cells c = list_any (λ d. d.0 == c.0) cells
+use Rattle.fleet_model.specs.Lists.{has_cell, numbers_below}
 
 -- some cell stands twice
 abbrev pub has_repeat : List CellNo → Bool

@@ -4,11 +4,11 @@ use Rattle.std.specs.Option.{option_map}
 use Rattle.fleet_base.specs.declared.numbers.CellNo.{CellNo}
 use Rattle.fleet_base.specs.declared.numbers.ClaimNo.{ClaimNo}
 use Rattle.fleet_base.specs.declared.numbers.ClaimGroup.{ClaimGroup}
-use Rattle.fleet_model.specs.Lists.{numbers_below}
+use Rattle.fleet_model.specs.Lists.{numbers_below, has_cell}
 use Rattle.fleet_model.specs.Sites.{Site}
 use Rattle.site_map.specs.declared.names.ClaimName.{ClaimName}
 use Rattle.site_map.specs.declared.names.ClaimName.TheVariants.{Cell, Crossing}
-use Rattle.site_map.specs.Cells.{has_cell, cells_below}
+use Rattle.site_map.specs.Cells.{cells_below}
 use Rattle.site_map.specs.Crossings.{BuiltCrossing, claim_count_of, crossing_claims, flow_of}
 use Rattle.site_map.specs.Built.{BuiltSite}
 

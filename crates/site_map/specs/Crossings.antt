@@ -1,8 +1,9 @@
 -- Crossings and their flows.
 use Rattle.std.specs.Prelude.{◌≡◌, ℕ, ◌+◌, ◌<◌, max, Bool, true, false, not, List, [], ◌∷◌, ◌++◌, length, All, AllPairs}
 use Rattle.std.specs.List.{filter, list_any, position_or_len}
+use Rattle.fleet_model.specs.Lists.{has_cell}
 use Rattle.fleet_base.specs.declared.numbers.CellNo.{CellNo}
-use Rattle.site_map.specs.Cells.{has_cell, CellsRise}
+use Rattle.site_map.specs.Cells.{CellsRise}
 
 -- a crossing: its cells and its flows, all ascending
 pub record BuiltCrossing : Type 0 where

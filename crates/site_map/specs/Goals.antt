@@ -1,5 +1,5 @@
 -- Goals of robots.
-use Rattle.std.specs.Prelude.{ℕ, ◌<◌, List, [], ◌∷◌, length}
+use Rattle.std.specs.Prelude.{◌<◌, List, [], ◌∷◌, length}
 use Rattle.fleet_base.specs.declared.numbers.CellNo.{CellNo}
 use Rattle.site_map.specs.declared.goal.Goal.{Goal}
 use Rattle.site_map.specs.declared.goal.Goal.TheVariants.{Cell, Area}

@@ -4,6 +4,7 @@ use Rattle.std.specs.List.{list_any}
 use Rattle.std.specs.Option.{unwrap_or}
 use Rattle.std.specs.FinSet as set
 use Rattle.std.specs.Ordering.{nat_cmp}
+use Rattle.fleet_model.specs.Lists.{has_cell}
 use Rattle.fleet_base.specs.declared.limits.TheConstants.{MAX_CELLS, MAX_COST, MAX_LINKS, MAX_CROSSINGS, MAX_AREAS}
 use Rattle.fleet_base.specs.declared.numbers.CellNo.{CellNo}
 use Rattle.fleet_base.specs.declared.numbers.Link.{Link}
@@ -11,7 +12,7 @@ use Rattle.site_map.specs.declared.refused.TheConstants.{MAX_CROSSING_CLAIMS}
 use Rattle.site_map.specs.declared.places.Place.{Place}
 use Rattle.site_map.specs.declared.places.Places.{Places}
 use Rattle.site_map.specs.declared.places.Places.TheVariants.{Free, One, Two}
-use Rattle.site_map.specs.Cells.{has_cell, CellsRise, LinksRise}
+use Rattle.site_map.specs.Cells.{CellsRise, LinksRise}
 use Rattle.site_map.specs.Crossings.{AreApart, BuiltCrossing, completed, crossing_claims, flow_of, in_flow, IsFlow}
 use Rattle.site_map.specs.Built.{BuiltSite, crossing_at, link_total}
 

@@ -3,11 +3,11 @@ use Rattle.std.specs.Prelude.{◌≡◌, ℕ, Bool, not, ◌&&◌, ◌||◌, ◌
 use Rattle.std.specs.List.{list_any}
 use Rattle.fleet_base.specs.declared.limits.TheConstants.{MAX_CELLS, MAX_CROSSINGS, MAX_CROSSINGS_OF_CELL, MAX_AREAS, MAX_LINKS}
 use Rattle.fleet_base.specs.declared.numbers.CellNo.{CellNo}
-use Rattle.fleet_model.specs.Lists.{when, first_some}
+use Rattle.fleet_model.specs.Lists.{when, first_some, has_cell}
 use Rattle.site_map.specs.declared.refused.BuildRefused.{BuildRefused}
 use Rattle.site_map.specs.declared.refused.BuildRefused.TheVariants.{UnknownCell, UnknownCrossing, Repeated, Full, TooManyCrossings, Foreign, SelfLink, Linked, NoMemory}
 use Rattle.site_map.specs.declared.refused.TheConstants.{MAX_CROSSING_CLAIMS}
-use Rattle.site_map.specs.Cells.{has_cell, has_repeat, are_known}
+use Rattle.site_map.specs.Cells.{has_repeat, are_known}
 use Rattle.site_map.specs.Crossings.{completed, crossing_claims, in_flow}
 use Rattle.site_map.specs.Built.{BuiltSite, crossing_at, crossings_with, link_total, links_at, with_crossing, with_flow}
 

@@ -1,10 +1,10 @@
 -- What every finished site keeps.
-use Rattle.std.specs.Prelude.{◌≡◌, ℕ, ◌<◌, ◌≤◌, Bool, true, false, ◌==◌, List, length, All}
+use Rattle.std.specs.Prelude.{◌≡◌, ℕ, ◌<◌, ◌≤◌, Bool, true, false, ◌==◌, length, All}
 use Rattle.std.specs.List.{list_any}
+use Rattle.fleet_model.specs.Lists.{has_cell}
 use Rattle.fleet_base.specs.declared.limits.TheConstants.{MAX_AREAS, MAX_CELLS, MAX_CROSSINGS, MAX_CROSSINGS_OF_CELL, MAX_LINKS}
 use Rattle.fleet_base.specs.declared.numbers.CellNo.{CellNo}
 use Rattle.site_map.specs.declared.refused.TheConstants.{MAX_CROSSING_CLAIMS}
-use Rattle.site_map.specs.Cells.{has_cell}
 use Rattle.site_map.specs.Crossings.{AreApart, BuiltCrossing, crossing_claims, in_flow, IsFlow}
 use Rattle.site_map.specs.Built.{BuiltSite, crossings_with, link_total, links_at}
 use Rattle.site_map.specs.Inside.{AreCells, AreLinks}

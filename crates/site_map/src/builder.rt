@@ -3,8 +3,8 @@
 ghost use Rattle.std.specs.Prelude.{◌≡◌, ◌<◌, ◌≤◌, ◌&&◌, true, not, if◌then◌else◌, [], ◌∷◌, ◌++◌, length, map, take, slice_index_or, slice_set, None, Some, All, IfOk, IfErr, OnOk, OnErr};
 ghost use Rattle.std.specs.Vec.{vec_capacity, vec_len};
 ghost use Rattle.std.specs.FinSet as set;
+ghost use Rattle.fleet_model.specs.Lists.{has_cell};
 ghost use Rattle.fleet_base.specs.declared.limits.TheConstants.{MAX_CROSSINGS_OF_CELL};
-ghost use Rattle.site_map.specs.Cells.{has_cell};
 ghost use Rattle.site_map.specs.Crossings.{completed, crossing_claims, in_flow, with_line};
 ghost use Rattle.site_map.specs.Built.{completed_site, crossing_at, crossings_with, no_crossing, no_site, with_area, with_cell, with_crossing, with_flow, with_link};
 ghost use Rattle.site_map.specs.Claims.{footprint_in, is_alone};

@@ -3,8 +3,9 @@
 ghost use Rattle.std.specs.Prelude.{◌≡◌, ◌<◌, ◌≤◌, true, false, IfSome, IfOk, IfNone, All};
 ghost use Rattle.std.specs.List.{filter};
 ghost use Rattle.std.specs.FinSet as set;
+ghost use Rattle.fleet_model.specs.Lists.{has_cell};
 ghost use Rattle.fleet_base.specs.declared.numbers.CellNo.{CellNo};
-ghost use Rattle.site_map.specs.Cells.{are_known, cells_below, has_cell, has_repeat};
+ghost use Rattle.site_map.specs.Cells.{are_known, cells_below, has_repeat};
 
 use bit_set::BitSet;
 use fleet_base::numbers::CellNo;

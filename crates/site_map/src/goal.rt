@@ -1,7 +1,7 @@
 //! Goals of robots.
 
 ghost use Rattle.std.specs.Prelude.{◌≡◌};
-ghost use Rattle.site_map.specs.Cells.{has_cell};
+ghost use Rattle.fleet_model.specs.Lists.{has_cell};
 ghost use Rattle.site_map.specs.Goals.{goal_cells, IsGoal};
 
 use crate::site::Site;

@@ -71,11 +71,11 @@ fn site_is_as_built(rt: HostRuntime) -> Result<(), Fail> {
 }
 
 #[test]
-fn claims_of_crossings(rt: HostRuntime) {
+fn footprints_are_the_claims_of_cells(rt: HostRuntime) {
     let mut builder = SiteBuilder::new(rt.alloc());
     assert_eq!(rt; yard(&rt, &mut builder), Ok(()));
     let site = builder.finish();
-    assert!(rt; site.cell_count() == 7 && site.claim_count() == 11);
+    assert_eq!(rt; site.cell_count(), 7);
     assert_eq!(rt; site.footprint(CellNo(0)).list(), [ClaimNo(0)].as_slice());
     assert_eq!(rt;
         site.footprint(CellNo(2)).list(),
@@ -89,54 +89,44 @@ fn claims_of_crossings(rt: HostRuntime) {
         site.footprint(CellNo(6)).list(),
         [ClaimNo(6), ClaimNo(10)].as_slice()
     );
-    assert_eq!(rt;
-        site.group(ClaimNo(4)),
-        ClaimGroup {
-            group: 4,
-            alone: true
-        }
-    );
-    assert_eq!(rt;
-        site.group(ClaimNo(7)),
-        ClaimGroup {
-            group: 7,
-            alone: true
-        }
-    );
-    assert_eq!(rt;
-        site.group(ClaimNo(9)),
-        ClaimGroup {
-            group: 8,
-            alone: false
-        }
-    );
-    assert_eq!(rt; site.claim_name(ClaimNo(4)), ClaimName::Cell(CellNo(4)));
-    assert_eq!(rt;
-        site.claim_name(ClaimNo(7)),
-        ClaimName::Crossing {
-            crossing: 0,
-            flow: None
-        }
-    );
-    assert_eq!(rt;
-        site.claim_name(ClaimNo(9)),
-        ClaimName::Crossing {
-            crossing: 1,
-            flow: Some(1)
-        }
-    );
-    assert_eq!(rt;
-        site.claim_name(ClaimNo(10)),
-        ClaimName::Crossing {
-            crossing: 2,
-            flow: None
-        }
-    );
+}
+
+// A claim's group, and whether it is alone in it.
+fn group(group: u32, alone: bool) -> ClaimGroup {
+    ClaimGroup { group, alone }
+}
+
+#[test]
+fn claims_are_grouped_by_what_they_take(rt: HostRuntime) {
+    let mut builder = SiteBuilder::new(rt.alloc());
+    assert_eq!(rt; yard(&rt, &mut builder), Ok(()));
+    let site = builder.finish();
+    assert_eq!(rt; site.claim_count(), 11);
+    assert_eq!(rt; site.group(ClaimNo(4)), group(4, true));
+    assert_eq!(rt; site.group(ClaimNo(7)), group(7, true));
+    assert_eq!(rt; site.group(ClaimNo(9)), group(8, false));
     assert!(rt; site.conflict(ClaimNo(4), ClaimNo(4)));
     assert!(rt; !site.conflict(ClaimNo(4), ClaimNo(5)));
     assert!(rt; site.conflict(ClaimNo(8), ClaimNo(9)));
     assert!(rt; !site.conflict(ClaimNo(8), ClaimNo(8)));
     assert!(rt; !site.conflict(ClaimNo(7), ClaimNo(8)));
+}
+
+// The name of a crossing's claim.
+fn crossing(crossing: u32, flow: Option<u32>) -> ClaimName {
+    ClaimName::Crossing { crossing, flow }
+}
+
+#[test]
+fn claims_are_named_by_cell_crossing_and_flow(rt: HostRuntime) {
+    let mut builder = SiteBuilder::new(rt.alloc());
+    assert_eq!(rt; yard(&rt, &mut builder), Ok(()));
+    let site = builder.finish();
+    assert_eq!(rt; site.claim_count(), 11);
+    assert_eq!(rt; site.claim_name(ClaimNo(4)), ClaimName::Cell(CellNo(4)));
+    assert_eq!(rt; site.claim_name(ClaimNo(7)), crossing(0, None));
+    assert_eq!(rt; site.claim_name(ClaimNo(9)), crossing(1, Some(1)));
+    assert_eq!(rt; site.claim_name(ClaimNo(10)), crossing(2, None));
 }
 
 #[test]

@@ -1,9 +1,9 @@
 use Rattle.std.proofs.Common.{◌≡◌, ℕ, ap, refl, subst, ◌∙◌}
 use Rattle.std.specs.Prelude.{Vec}
 use Rattle.std.specs.Global.{Global}
+use Rattle.fleet_model.specs.Lists.{has_cell}
 use Rattle.fleet_base.specs.declared.numbers.CellNo.{CellNo}
 use Rattle.site_map.specs.Built.{BuiltSite}
-use Rattle.site_map.specs.Cells.{has_cell}
 use Rattle.site_map.specs.Goals.{goal_cells}
 use Rattle.route_plan.specs.Labels.{has}
 use Rattle.fleet_route.proofs.Told.{found_told, unreachable_told}

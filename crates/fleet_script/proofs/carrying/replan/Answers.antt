@@ -1,7 +1,7 @@
 use Rattle.std.proofs.Common.{◌≢◌, Ok, Err, ap, ◌∙◌, rules}
 use Rattle.std.proofs.lemmas.Result.{on_ok_weaker}
+use Rattle.fleet_model.specs.Lists.{has_cell}
 use Rattle.fleet_base.specs.declared.answers.ReplanRefused.TheVariants.{NoMemory}
-use Rattle.fleet_model.specs.Calls.{has_cell}
 use Rattle.route_plan.specs.Labels.{has}
 use Rattle.site_map.specs.Goals.{goal_cells}
 use Rattle.fleet_script.proofs.Replans.{replan_answered}

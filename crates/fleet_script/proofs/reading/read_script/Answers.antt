@@ -1,5 +1,5 @@
 use Rattle.std.proofs.Common.{arith}
-use Rattle.fleet_script.proofs.Fronts.{front_within}
+use Rattle.scenario.proofs.FrontSizes.{front_within}
 use Rattle.scenario.specs.Readers.{front_value}
 use Rattle.fleet_script.proofs.reading.read_script.Goals as goal
 

@@ -1,7 +1,7 @@
 use Rattle.std.proofs.Common.{◌≡◌, ◌≤◌, sym, subst, ap, ◌∙◌}
 use Rattle.std.specs.FinSet.{insert}
+use Rattle.fleet_model.specs.Lists.{has_cell}
 use Rattle.fleet_base.specs.declared.numbers.CellNo.{CellNo}
-use Rattle.fleet_model.specs.Calls.{has_cell}
 use Rattle.journal_replay.proofs.Replans.{last_is, only_cell}
 use Rattle.journal_replay.proofs.entry.last_of.Goals as goal
 

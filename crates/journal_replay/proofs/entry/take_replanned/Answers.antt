@@ -2,10 +2,10 @@ use Rattle.std.proofs.Common.{◌-◌, List, length, arith, sym, ap, ◌∙◌}
 use Rattle.std.proofs.lemmas.Bool.{both_ways}
 use Rattle.std.specs.Option.{option_copied}
 use Rattle.std.specs.Prelude.{slice_get}
+use Rattle.fleet_model.specs.Lists.{has_cell}
 use Rattle.fleet_base.specs.declared.entries.Act.TheVariants.{Replanned}
 use Rattle.fleet_base.specs.declared.entries.Entry.{Entry}
 use Rattle.fleet_base.specs.declared.numbers.CellNo.{CellNo}
-use Rattle.fleet_model.specs.Calls.{has_cell}
 use Rattle.fleet_model.specs.Journals.{last_of}
 use Rattle.fleet_model.proofs.GoodStates.{journal_good}
 use Rattle.coordinator.specs.Books.{Book, opening_of, state_of}

@@ -16,7 +16,7 @@ loop-label-init c =
     let goals = has c.args.goal.now in
     let avoid = has c.args.avoid.now in
     let labels = c.in_ok-search.search.labels.items in
-    let open_cells = heap_items c.in_ok-search.search.open in
+    let open_cells = heap_items c.in_ok-search.search.queue in
     let count : c.cell_count-count.result ≡ cell_count site = c.cell_count-count.ensures.count ∙ sym (cells_of c.args.site.now) in
     let few = c.cell_count-count.ensures.valid.few_cells in
     record {
@@ -27,7 +27,7 @@ loop-label-init c =
 pub visit-requires-clause-known : goal.visit-requires-clause-known
 visit-requires-clause-known c =
     let site = site_of c.args.site.now in
-    let h = search_reordered site (has c.args.goal.now) (has c.args.avoid.now) c.loop-label.search.labels.items (heap_items c.loop-label.search.open) (c.in-Some.field-0 ∷ heap_items c.pop.new.self) c.in-Some.ensures.permutation c.loop-label.invariant.settled in
+    let h = search_reordered site (has c.args.goal.now) (has c.args.avoid.now) c.loop-label.search.labels.items (heap_items c.loop-label.search.queue) (c.in-Some.field-0 ∷ heap_items c.pop.new.self) c.in-Some.ensures.permutation c.loop-label.invariant.settled in
     let known = h.known c.in-Some.field-0 (first_member c.in-Some.field-0 (heap_items c.pop.new.self)) in
     let long = h.long in
     omega arith
@@ -44,7 +44,7 @@ visit-requires-clause-froms c = λ b e m.
 pub loop-label-preserved : goal.loop-label-preserved
 loop-label-preserved c =
     let site = site_of c.args.site.now in
-    let h = search_reordered site (has c.args.goal.now) (has c.args.avoid.now) c.loop-label.search.labels.items (heap_items c.loop-label.search.open) (c.in-Some.field-0 ∷ heap_items c.pop.new.self) c.in-Some.ensures.permutation c.loop-label.invariant.settled in
+    let h = search_reordered site (has c.args.goal.now) (has c.args.avoid.now) c.loop-label.search.labels.items (heap_items c.loop-label.search.queue) (c.in-Some.field-0 ∷ heap_items c.pop.new.self) c.in-Some.ensures.permutation c.loop-label.invariant.settled in
     record {
       settled = c.in_ok-visit.ensures.kept site (has c.args.goal.now) c.cell_count-count.ensures.site (subst (AreIncoming site) (sym c.deref.ensures.value) c.in_ok-rows.ensures) h;
       low = c.in_ok-visit.ensures.low;
@@ -53,5 +53,5 @@ loop-label-preserved c =
 pub returns-clause-least : goal.returns-clause-least
 returns-clause-least c =
     let site = site_of c.args.site.now in
-    let none : heap_items c.loop-label.search.open ≡ [] = none_of_length (heap_items c.loop-label.search.open) (sym c.loop-label.search.open.data.ok.0 ∙ c.in_default.ensures.none) in
+    let none : heap_items c.loop-label.search.queue ≡ [] = none_of_length (heap_items c.loop-label.search.queue) (sym c.loop-label.search.queue.data.ok.0 ∙ c.in_default.ensures.none) in
     search_done site (has c.args.goal.now) (has c.args.avoid.now) c.loop-label.search.labels.items c.cell_count-count.ensures.site (subst (IsSettled site (has c.args.goal.now) (has c.args.avoid.now) c.loop-label.search.labels.items) none c.loop-label.invariant.settled)

@@ -6,9 +6,9 @@ use Rattle.route_plan.proofs.search.least_labels.Given as goal
 
 abbrev pub invariant-loop-label : goal.invariant-loop-label
 invariant-loop-label l = record {
-  settled : IsSettled (site_of l.site) (has l.goal) (has l.avoid) l.search.labels.items (heap_items l.search.open);
+  settled : IsSettled (site_of l.site) (has l.goal) (has l.avoid) l.search.labels.items (heap_items l.search.queue);
   low : AreLow l.search.labels.items;
 }
 
 abbrev pub decreases-loop-label : goal.decreases-loop-label
-decreases-loop-label l = work l.search.labels.items (heap_items l.search.open)
+decreases-loop-label l = work l.search.labels.items (heap_items l.search.queue)

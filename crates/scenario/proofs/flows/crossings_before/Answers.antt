@@ -1,8 +1,8 @@
 use Rattle.std.proofs.Common.{◌≡◌, ◌≤◌, Bool, true, false, cond, List, refl, ap, ◌∙◌, arith}
+use Rattle.fleet_model.specs.Lists.{has_cell}
 use mir.Val.{bool_byte}
 use Rattle.fleet_base.specs.declared.numbers.CellNo.{CellNo}
 use Rattle.site_map.specs.Built.{crossing_at, no_crossing}
-use Rattle.site_map.specs.Cells.{has_cell}
 use Rattle.scenario.proofs.Prints.{with_more}
 use Rattle.scenario.proofs.flows.crossings_before.Goals as goal
 

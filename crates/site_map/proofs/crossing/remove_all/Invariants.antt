@@ -1,7 +1,7 @@
 use Rattle.std.proofs.Common.{◌≡◌, ◌&&◌, not, take}
 use Rattle.std.specs.FinSet as set
+use Rattle.fleet_model.specs.Lists.{has_cell}
 use Rattle.fleet_base.specs.declared.numbers.CellNo.{CellNo}
-use Rattle.site_map.specs.Cells.{has_cell}
 use Rattle.site_map.proofs.crossing.remove_all.Given as goal
 
 abbrev pub invariant-loop-cell : goal.invariant-loop-cell

@@ -34,19 +34,19 @@ loop-entry-preserved c =
     let left : List Entry = drop (i + 1) c.args.row.now in
     let avoid = has c.args.avoid.now in
     let labels = c.loop-entry.self.labels.items in
-    let open_cells = heap_items c.loop-entry.self.open in
+    let open_cells = heap_items c.loop-entry.self.queue in
     let inv = c.loop-entry.invariant in
     let known : x.from.0 < length c.args.self.now.labels.items = c.requires.froms x (Contains-get_or c.args.row.now i no_entry c.loop-entry-test.true) in
     let long = inv.long in
     let front : drop i c.args.row.now ≡ x ∷ left = drop_more c.args.row.now i no_entry c.loop-entry-test.true in
-    let step : IsStep avoid c.args.cell c.args.label x left labels open_cells c.if-not-holds.self.labels.items (heap_items c.if-not-holds.self.open) = elim c.if-not-holds.branch [
+    let step : IsStep avoid c.args.cell c.args.label x left labels open_cells c.if-not-holds.self.labels.items (heap_items c.if-not-holds.self.queue) = elim c.if-not-holds.branch [
       | then-not-holds+in_ok-lower w ↦
-          let lowered : IsLowered x.from (c.args.label + x.cost) labels open_cells w.lower.new.self.labels.items (heap_items w.lower.new.self.open) = subst (λ k. IsLowered x.from (c.args.label + k) labels open_cells w.lower.new.self.labels.items (heap_items w.lower.new.self.open)) w.from.ensures w.in_ok-lower.ensures.lowered in
+          let lowered : IsLowered x.from (c.args.label + x.cost) labels open_cells w.lower.new.self.labels.items (heap_items w.lower.new.self.queue) = subst (λ k. IsLowered x.from (c.args.label + k) labels open_cells w.lower.new.self.labels.items (heap_items w.lower.new.self.queue)) w.from.ensures w.in_ok-lower.ensures.lowered in
           let fits : x.cost < 2 ^ 32 = search rules in
-          subst (λ (s : Search). IsStep avoid c.args.cell c.args.label x left labels open_cells s.labels.items (heap_items s.open)) (sym w.self-is)
-          (step_lowered avoid c.args.cell c.args.label x left labels open_cells w.lower.new.self.labels.items (heap_items w.lower.new.self.open) lowered (sym c.holds.ensures ∙ w.if-not-holds.true) fits (omega arith) inv.low inv.lies)
+          subst (λ (s : Search). IsStep avoid c.args.cell c.args.label x left labels open_cells s.labels.items (heap_items s.queue)) (sym w.self-is)
+          (step_lowered avoid c.args.cell c.args.label x left labels open_cells w.lower.new.self.labels.items (heap_items w.lower.new.self.queue) lowered (sym c.holds.ensures ∙ w.if-not-holds.true) fits (omega arith) inv.low inv.lies)
       | else-not-holds w ↦
-          subst (λ (s : Search). IsStep avoid c.args.cell c.args.label x left labels open_cells s.labels.items (heap_items s.open)) (sym w.self-is)
+          subst (λ (s : Search). IsStep avoid c.args.cell c.args.label x left labels open_cells s.labels.items (heap_items s.queue)) (sym w.self-is)
           (step_skipped avoid c.args.cell c.args.label x left labels open_cells (sym c.holds.ensures ∙ w.if-not-holds.false) inv.low inv.lies)
     ] in
     record {
@@ -59,5 +59,5 @@ loop-entry-preserved c =
 
 pub returns-clause-kept : goal.returns-clause-kept
 returns-clause-kept c = λ site goal is_site h.
-    search_settled site goal (has c.args.avoid.now) c.loop-entry.self.labels.items c.args.cell c.args.label (heap_items c.loop-entry.self.open)
-    (subst (λ left. IsSearch site goal (has c.args.avoid.now) c.args.cell c.args.label left c.loop-entry.self.labels.items (heap_items c.loop-entry.self.open)) (drop_all c.loop-entry.entry-index c.args.row.now (omega arith)) (c.loop-entry.invariant.kept site goal is_site h))
+    search_settled site goal (has c.args.avoid.now) c.loop-entry.self.labels.items c.args.cell c.args.label (heap_items c.loop-entry.self.queue)
+    (subst (λ left. IsSearch site goal (has c.args.avoid.now) c.args.cell c.args.label left c.loop-entry.self.labels.items (heap_items c.loop-entry.self.queue)) (drop_all c.loop-entry.entry-index c.args.row.now (omega arith)) (c.loop-entry.invariant.kept site goal is_site h))

@@ -8,9 +8,9 @@ use Rattle.route_plan.proofs.search.Search.look_back.Given as goal
 
 abbrev pub invariant-loop-entry : goal.invariant-loop-entry
 invariant-loop-entry l = record {
-  kept : (site : Site) (goal : CellNo → Bool) → IsSite site → IsSearch site goal (has l.avoid) l.fn.cell l.label l.row l.initial.self.labels.items (heap_items l.initial.self.open) → IsSearch site goal (has l.avoid) l.fn.cell l.label (drop l.entry-index l.row) l.self.labels.items (heap_items l.self.open);
+  kept : (site : Site) (goal : CellNo → Bool) → IsSite site → IsSearch site goal (has l.avoid) l.fn.cell l.label l.row l.initial.self.labels.items (heap_items l.initial.self.queue) → IsSearch site goal (has l.avoid) l.fn.cell l.label (drop l.entry-index l.row) l.self.labels.items (heap_items l.self.queue);
   long : length l.self.labels.items ≡ length l.initial.self.labels.items;
   low : AreLow l.self.labels.items;
   lies : l.label + 2 ^ 32 * gaps l.self.labels.items ≤ 2 ^ 32 * length l.self.labels.items;
-  nearer : work l.self.labels.items (heap_items l.self.open) ≤ work l.initial.self.labels.items (heap_items l.initial.self.open);
+  nearer : work l.self.labels.items (heap_items l.self.queue) ≤ work l.initial.self.labels.items (heap_items l.initial.self.queue);
 }

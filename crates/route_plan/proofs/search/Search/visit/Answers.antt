@@ -22,7 +22,7 @@ returns-in_ok-look_back-clause-kept c = λ site goal is_site are h.
     let row : c.entries.result.now ≡ row_at c.args.rows.now c.args.cell = c.entries.ensures ∙ c.index-rows-at.is ∙ get_or_default c.args.rows.now c.args.cell.0 c.index-rows-at.result [] known in
     let labels = c.args.self.now.labels.items in
     let avoid = has c.args.avoid.now in
-    let open_cells = heap_items c.args.self.now.open in
+    let open_cells = heap_items c.args.self.now.queue in
     let read : c.index.result.now ≡ label_at labels c.args.cell = c.index.ensures ∙ get_or_default labels c.args.cell.0 c.index.result.now None c.requires.known in
     let labelled : label_at labels c.args.cell ≡ Some c.args.label = sym read ∙ same_label c.index.result.now c.args.label (sym c.eq.ensures ∙ c.if-eq.true) in
     c.in_ok-look_back.ensures.kept site goal is_site
@@ -32,5 +32,5 @@ pub returns-else-eq-clause-kept : goal.returns-else-eq-clause-kept
 returns-else-eq-clause-kept c = λ site goal is_site are h.
     let labels = c.args.self.now.labels.items in
     let read : c.index.result.now ≡ label_at labels c.args.cell = c.index.ensures ∙ get_or_default labels c.args.cell.0 c.index.result.now None c.requires.known in
-    search_stale site goal (has c.args.avoid.now) labels c.args.cell c.args.label (heap_items c.args.self.now.open) h
+    search_stale site goal (has c.args.avoid.now) labels c.args.cell c.args.label (heap_items c.args.self.now.queue) h
     (λ e. both_ways c.eq.result c.if-eq.false (c.eq.ensures ∙ label_same c.index.result.now c.args.label (read ∙ e)))

@@ -2,10 +2,10 @@ use Rattle.std.proofs.Common.{◌≡◌, ℕ, ◌+◌, ◌<◌, true, cond, List
 use Rattle.std.specs.Result.{is_ok}
 use Rattle.std.specs.FinSet as fin
 use Rattle.std.proofs.lemmas.List.{length_push}
+use Rattle.fleet_model.specs.Lists.{has_cell}
 use Rattle.fleet_base.specs.declared.numbers.CellNo.{CellNo}
 use Rattle.site_map.specs.declared.places.Places.{Places}
 use Rattle.site_map.specs.declared.places.Places.TheVariants.{Free}
-use Rattle.site_map.specs.Cells.{has_cell}
 use Rattle.site_map.specs.Crossings.{BuiltCrossing, completed, crossing_claims}
 use Rattle.site_map.specs.Built.{BuiltSite, crossings_with}
 use Rattle.site_map.specs.Inside.{AreCells, AreNumbered, entered, IsKept, places_list}

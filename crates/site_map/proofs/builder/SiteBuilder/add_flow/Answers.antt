@@ -4,10 +4,10 @@ use Rattle.fleet_base.specs.declared.numbers.CellNo.{CellNo}
 use Rattle.site_map.specs.declared.places.Places.{Places}
 use Rattle.site_map.specs.declared.places.Places.TheVariants.{Free}
 use Rattle.site_map.specs.Crossings.{BuiltCrossing, completed, crossing_claims, in_flow, with_line}
-use Rattle.site_map.specs.Cells.{has_cell}
 use Rattle.site_map.specs.Built.{BuiltSite, crossing_at, no_crossing}
 use Rattle.site_map.specs.Inside.{AreCells, AreNumbered, IsKept, marked, places_list}
 use Rattle.std.proofs.lemmas.List.Elements.{All-get_or}
+use Rattle.fleet_model.specs.Lists.{has_cell}
 use Rattle.site_map.proofs.BuilderLemmas.{claim_count_within, kept_flow, total_flow}
 use Rattle.site_map.proofs.CellLemmas.{read_at, written_back}
 use Rattle.site_map.proofs.SiteLemmas.{flows_few}

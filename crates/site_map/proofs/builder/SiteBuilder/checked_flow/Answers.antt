@@ -3,12 +3,13 @@ use Rattle.std.specs.List.{list_any, list_all}
 use Rattle.std.proofs.lemmas.Bool.{not_from_true, lt-leb, lt-ltb, le-ltb}
 use Rattle.fleet_base.specs.declared.numbers.CellNo.{CellNo}
 use Rattle.site_map.specs.declared.refused.BuildRefused.TheVariants.{Full, Foreign}
-use Rattle.site_map.specs.Cells.{are_known, has_cell, has_repeat, in_order}
+use Rattle.site_map.specs.Cells.{are_known, has_repeat, in_order}
 use Rattle.site_map.specs.Crossings.{BuiltCrossing, claim_count_of, completed, crossing_claims, in_flow, with_line}
 use Rattle.site_map.specs.Built.{no_crossing}
 use Rattle.site_map.specs.Refusals.{flow_cause}
 use Rattle.site_map.proofs.BuilderLemmas.{claim_count_within, claims_with_flow}
 use Rattle.std.proofs.lemmas.List.Elements.{All-get_or}
+use Rattle.fleet_model.specs.Lists.{has_cell}
 use Rattle.site_map.specs.Inside.{AreCells}
 use Rattle.site_map.proofs.CrossingLemmas.{claims_step}
 use Rattle.site_map.proofs.CauseLemmas.{any_foreign, flow_is_full, flow_is_foreign, flow_is_fine}

@@ -2,8 +2,9 @@ use Rattle.std.proofs.Common.{◌≡◌, ℕ, ◌<◌, true, false, not, ◌||�
 use Rattle.std.specs.List.{list_any, All}
 use Rattle.std.proofs.lemmas.Bool.{not-false, or_parts, ltb-false, leb-false}
 use Rattle.std.proofs.lemmas.List.Elements.{All-weaker}
+use Rattle.fleet_model.specs.Lists.{has_cell}
 use Rattle.fleet_base.specs.declared.numbers.CellNo.{CellNo}
-use Rattle.site_map.specs.Cells.{are_known, has_cell, has_repeat, in_order}
+use Rattle.site_map.specs.Cells.{are_known, has_repeat, in_order}
 use Rattle.site_map.specs.Crossings.{BuiltCrossing, completed, crossing_claims}
 use Rattle.site_map.specs.Built.{BuiltSite, crossings_with}
 use Rattle.site_map.specs.Inside.{AreCells}

@@ -1,8 +1,9 @@
 use Rattle.std.proofs.Common.{◌≡◌, ℕ, true, false, not, ◌||◌, leb, ltb, List, None, length, map, set, sym, ap, subst, ◌∙◌, arith}
 use Rattle.std.specs.List.{list_any}
 use Rattle.std.proofs.lemmas.Bool.{not-false, or_parts, and_from, not_from_false}
+use Rattle.fleet_model.specs.Lists.{has_cell}
 use Rattle.fleet_base.specs.declared.numbers.CellNo.{CellNo}
-use Rattle.site_map.specs.Cells.{are_known, has_cell, has_repeat, in_order}
+use Rattle.site_map.specs.Cells.{are_known, has_repeat, in_order}
 use Rattle.site_map.specs.Crossings.{completed, crossing_claims, in_flow, with_line}
 use Rattle.site_map.specs.Built.{BuiltSite, crossing_at}
 use Rattle.site_map.specs.Inside.{AreCells}

@@ -2,7 +2,7 @@ use Rattle.std.proofs.Common.{◌≡◌, ◌++◌, ◌∷◌, [], true, cond, �
 use Rattle.std.specs.List.{list_any}
 use Rattle.std.specs.Result.{is_ok}
 use Rattle.std.specs.FinSet as set
-use Rattle.site_map.specs.Cells.{has_cell}
+use Rattle.fleet_model.specs.Lists.{has_cell}
 use Rattle.site_map.specs.Inside.{IsCrossing}
 use Rattle.site_map.proofs.CrossingLemmas.{IsCrossing-line}
 use Rattle.site_map.proofs.crossing.Crossing.add_line.Goals as goal

@@ -3,7 +3,7 @@ use Rattle.std.specs.FinSet.{contains-empty}
 use Rattle.std.specs.Ordering.{nat_cmp}
 use Rattle.route_plan.specs.Labels.{has}
 use Rattle.site_map.proofs.CellLemmas.{numbers_more}
-use Rattle.fleet_route.proofs.telling.set_of.Goals as goal
+use Rattle.route_plan.proofs.goals.set_of.Goals as goal
 
 pub loop-cell-init : goal.loop-cell-init
 loop-cell-init c = λ cell. ap (λ s. has s cell) c.new-set.ensures ∙ contains-empty nat_cmp cell.0

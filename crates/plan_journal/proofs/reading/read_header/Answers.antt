@@ -1,5 +1,5 @@
 use Rattle.plan_journal.proofs.Steps.{no_header, bad_header, good_header}
-use Rattle.plan_journal.proofs.reading.header_end.Goals as goal
+use Rattle.plan_journal.proofs.reading.read_header.Goals as goal
 
 pub returns-in_default-clause-is : goal.returns-in_default-clause-is
 returns-in_default-clause-is c = λ names. rw c.first_line.ensures (no_header names c.args.bytes.now c.in_default.ensures.lines)
