@@ -1,8 +1,7 @@
 -- A replan that no refusal fits, and the refusals in front of its search.
-use Rattle.std.proofs.Common.{◌≡◌, ℕ, ◌-◌, ◌<◌, ◌≤◌, Bool, true, false, not, ◌==◌, List, [], ◌∷◌, length, get_or, Option, Some, None, refl, sym, ap, subst, ◌∙◌}
-use Rattle.std.proofs.lemmas.Bool.{and_parts, both_ways, eqb-true, false_from_ne_true, le-ltb, lt-ltb, ltb-true, not-false, or_from}
+use Rattle.std.proofs.Common.{◌≡◌, ℕ, ◌-◌, ◌<◌, ◌≤◌, Bool, true, false, not, List, length, get_or, Option, Some, None, refl, sym, ap, subst, ◌∙◌}
+use Rattle.std.proofs.lemmas.Bool.{le-ltb, lt-ltb, ltb-true, not-false}
 use Rattle.std.specs.Prelude.{Err}
-use Rattle.std.specs.List.{list_all}
 use Rattle.std.specs.Option.{is_none, is_some}
 use Rattle.fleet_model.specs.Lists.{has_cell}
 use Rattle.fleet_base.specs.declared.answers.ReplanRefused.{ReplanRefused}
@@ -14,9 +13,8 @@ use Rattle.fleet_base.specs.declared.numbers.EventNo.{EventNo}
 use Rattle.fleet_base.specs.declared.numbers.Kind.{Kind}
 use Rattle.fleet_base.specs.declared.numbers.RobotNo.{RobotNo}
 use Rattle.fleet_base.specs.declared.numbers.Span.{Span}
-use Rattle.fleet_model.specs.Sites.{IsSite, last_cell, steps}
+use Rattle.fleet_model.specs.Sites.{IsSite, steps}
 use Rattle.fleet_model.specs.Plans.{IsBlocker, end_of}
-use Rattle.fleet_model.specs.Routes.{leads_to}
 use Rattle.fleet_model.specs.Deferral.{is_shut_to}
 use Rattle.fleet_model.specs.States.{State, is_full, is_robot, pending_of}
 use Rattle.fleet_model.specs.Calls.{Replan, Step, accepted, detour_of, first_of, replan, span_of, with_route}

@@ -5,7 +5,7 @@ use Rattle.fleet_cli.specs.declared.output.Ended.{Ended}
 use Rattle.fleet_cli.specs.declared.output.Ended.TheVariants.{Done}
 use Rattle.fleet_cli.specs.declared.fault.Fault.{Fault}
 use Rattle.fleet_cli.specs.declared.fault.Fault.TheVariants.{Line, TooBig, Entry, UnknownFrom, UnknownTo}
-use Rattle.scenario.specs.Tables.{mapped}
+use Rattle.scenario_reader.specs.Tables.{mapped}
 use Rattle.site_lines.specs.declared.fault.At.{At}
 use Rattle.site_lines.specs.declared.fault.Code.TheVariants.{T1}
 use Rattle.fleet_replay.specs.Replay.{ReplayValue, printed_or, reached_text, replay_of, unless_differs, with_tail}

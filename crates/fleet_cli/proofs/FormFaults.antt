@@ -16,13 +16,13 @@ use Rattle.fleet_script.specs.Script.{opening_of, printed, with_commands}
 use Rattle.journal_replay.specs.Differing.{first_differing}
 use Rattle.journal_replay.proofs.Differing.{first_differs, none_differs}
 use Rattle.plan_journal.specs.Reading.{Begun, Front, ended_lines, journal_of, read_all, read_line}
-use Rattle.scenario.specs.MissionLines.{goal_named}
-use Rattle.scenario.specs.Reading.{FrontValue, front_done, front_of, front_step, scenario_of, step as scenario_step, done as scenario_done}
-use Rattle.scenario.specs.Tables.{mapped}
+use Rattle.scenario_reader.specs.MissionLines.{goal_named}
+use Rattle.scenario_reader.specs.Reading.{FrontValue, front_done, front_of, front_step, scenario_of, step as scenario_step, done as scenario_done}
+use Rattle.scenario_reader.specs.Tables.{mapped}
 use Rattle.site_lines.specs.Readings.{read_from}
 use Rattle.scenario.specs.Scenarios.{ScenarioValue}
-use Rattle.scenario.specs.SiteLines.{cell_named}
-use Rattle.scenario.specs.States.{AtHeader}
+use Rattle.scenario_reader.specs.SiteLines.{cell_named}
+use Rattle.scenario_reader.specs.States.{AtHeader}
 use Rattle.site_map.specs.declared.goal.Goal.{Goal}
 use Rattle.fleet_cli.specs.declared.fault.Fault.{Fault}
 use Rattle.fleet_cli.specs.declared.fault.Fault.TheVariants.{Line, TooBig, Entry, UnknownFrom, UnknownTo}

@@ -1,7 +1,7 @@
 -- The text of a script that was carried out is what the script prints.
 use Rattle.std.proofs.Common.{◌≡◌, ℕ, List, Ok, Err, Result, sym, ap, ◌∙◌}
 use Rattle.site_lines.specs.declared.fault.At.{At}
-use Rattle.scenario.specs.Tables.{mapped}
+use Rattle.scenario_reader.specs.Tables.{mapped}
 use Rattle.fleet_script.specs.Script.{ScriptValue, printed, script_of, script_text}
 
 by_script : (r : Result ScriptValue At) (script : ScriptValue) (text : List ℕ) → r ≡ Ok script → mapped printed r ≡ Ok text → text ≡ printed script

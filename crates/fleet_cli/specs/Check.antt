@@ -2,8 +2,8 @@
 use Rattle.std.specs.Prelude.{ℕ, List, Ok, Err, Result}
 use Rattle.site_lines.specs.declared.fault.At.{At}
 use Rattle.scenario.specs.Scenarios.{ScenarioValue}
-use Rattle.scenario.specs.Reading.{scenario_of}
 use Rattle.scenario.specs.Canonical.{canonical_text}
+use Rattle.scenario_reader.specs.Reading.{scenario_of}
 use Rattle.fleet_cli.specs.declared.fault.Fault.{Fault}
 use Rattle.fleet_cli.specs.declared.fault.Fault.TheVariants.{Line}
 

@@ -4,8 +4,8 @@ use Rattle.std.specs.declared.option.Option.{Option}
 use Rattle.site_lines.specs.declared.fault.At.{At}
 use Rattle.site_lines.specs.Lines.{lines_of}
 use Rattle.site_lines.specs.Readings.{IsFirstFault}
-use Rattle.scenario.specs.Reading.{step, done}
-use Rattle.scenario.specs.States.{AtHeader}
+use Rattle.scenario_reader.specs.Reading.{step, done}
+use Rattle.scenario_reader.specs.States.{AtHeader}
 use Rattle.fleet_io.specs.Bytes.{Puts}
 use Rattle.fleet_cli.specs.declared.fault.Fault.{Fault}
 use Rattle.fleet_cli.specs.declared.fault.Fault.TheVariants.{Line, TooBig, Entry, UnknownFrom, UnknownTo}

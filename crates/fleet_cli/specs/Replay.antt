@@ -11,7 +11,7 @@ use Rattle.fleet_replay.specs.declared.refused.ReplayFault.TheVariants as fault
 use Rattle.fleet_script.specs.Script.{opening_of}
 use Rattle.journal_replay.specs.Differing.{DiffersAt}
 use Rattle.plan_journal.specs.Reading.{Begun, ended_lines, read_all, read_line}
-use Rattle.scenario.specs.Reading.{FrontValue, front_of}
+use Rattle.scenario_reader.specs.Reading.{FrontValue, front_of}
 use Rattle.site_lines.specs.declared.fault.At.{At}
 use Rattle.site_lines.specs.declared.fault.Code.TheVariants.{T1}
 use Rattle.site_lines.specs.Readings.{IsFirstFault}

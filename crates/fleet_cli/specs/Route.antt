@@ -4,10 +4,10 @@ use Rattle.fleet_base.specs.declared.numbers.CellNo.{CellNo}
 use Rattle.fleet_route.specs.Answers.{route_answer}
 use Rattle.fleet_route.specs.declared.refused.Refusal.{Refusal}
 use Rattle.fleet_route.specs.declared.refused.Refusal.TheVariants as refusals
-use Rattle.scenario.specs.MissionLines.{goal_named}
-use Rattle.scenario.specs.Reading.{scenario_of}
 use Rattle.scenario.specs.Scenarios.{ScenarioValue}
-use Rattle.scenario.specs.SiteLines.{cell_named}
+use Rattle.scenario_reader.specs.MissionLines.{goal_named}
+use Rattle.scenario_reader.specs.Reading.{scenario_of}
+use Rattle.scenario_reader.specs.SiteLines.{cell_named}
 use Rattle.fleet_cli.specs.declared.fault.Fault.{Fault}
 use Rattle.fleet_cli.specs.declared.fault.Fault.TheVariants.{Line, UnknownFrom, UnknownTo}
 

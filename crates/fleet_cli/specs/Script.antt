@@ -5,8 +5,8 @@ use Rattle.fleet_commands.specs.Texts.{IsFirstBad}
 use Rattle.fleet_io.specs.Bytes.{Puts}
 use Rattle.fleet_script.specs.Script.{ScriptValue, printed, script_of, script_text}
 use Rattle.fleet_script.specs.Sound.{PrintsSoundly}
-use Rattle.scenario.specs.Reading.{FrontValue, front_done, front_of, front_step}
-use Rattle.scenario.specs.States.{AtHeader}
+use Rattle.scenario_reader.specs.Reading.{FrontValue, front_done, front_of, front_step}
+use Rattle.scenario_reader.specs.States.{AtHeader}
 use Rattle.site_lines.specs.declared.fault.At.{At}
 use Rattle.site_lines.specs.Lines.{lines_of}
 use Rattle.site_lines.specs.Readings.{IsFirstFault}

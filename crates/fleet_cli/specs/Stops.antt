@@ -1,7 +1,7 @@
 -- What a function gives that may lack memory, beside what is due.
 use Rattle.std.specs.Prelude.{◌≡◌, Ok, Err, Result}
-use Rattle.scenario.specs.declared.stop.ReadRefused.{ReadRefused}
-use Rattle.scenario.specs.declared.stop.ReadRefused.TheVariants as read
+use Rattle.scenario_reader.specs.declared.stop.ReadRefused.{ReadRefused}
+use Rattle.scenario_reader.specs.declared.stop.ReadRefused.TheVariants as read
 use Rattle.fleet_route.specs.declared.refused.Untold.{Untold}
 use Rattle.fleet_route.specs.declared.refused.Untold.TheVariants as route
 use Rattle.fleet_replay.specs.declared.refused.ReplayFault.TheVariants as replay_fault

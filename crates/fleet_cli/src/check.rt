@@ -5,7 +5,7 @@ ghost use Rattle.fleet_cli.specs.Stops.{Gives};
 
 use crate::fault::Stop;
 use scenario::print::print_scenario;
-use scenario::read::read_scenario;
+use scenario_reader::read::read_scenario;
 use std::alloc::Global;
 
 // The canonical text of the scenario that the input is.

@@ -7,7 +7,7 @@ use fleet_base::path::NoMemory;
 use fleet_replay::refused::{ReplayFault, TextRefused};
 use fleet_route::refused::{Refusal, Untold};
 use fleet_script::refused::ScriptRefused;
-use scenario::stop::ReadRefused;
+use scenario_reader::stop::ReadRefused;
 use site_lines::fault::At;
 
 /// Why an input isn't accepted.

@@ -9,13 +9,13 @@ use Rattle.fleet_texts.specs.Texts.{journal_text}
 use Rattle.journal_replay.proofs.Differing.{legal_none}
 use Rattle.plan_journal.specs.Reading.{Front, journal_of}
 use Rattle.plan_journal.proofs.Again.{journal_again}
-use Rattle.scenario.specs.Kept.{IsReached}
-use Rattle.scenario.specs.Reading.{FrontValue, bytes_of_lines, front_done, front_of, front_step, is_ended, step}
 use Rattle.scenario.specs.Scenarios.{ScenarioValue}
-use Rattle.scenario.specs.States.{State, AtHeader, AmongSite, AmongRobots, InMission, Ended, scenario_in}
-use Rattle.scenario.specs.Tables.{mapped}
-use Rattle.scenario.proofs.Fines.{mapped_ok}
-use Rattle.scenario.proofs.Steps.{step_reached}
+use Rattle.scenario_reader.specs.Kept.{IsReached}
+use Rattle.scenario_reader.specs.Reading.{FrontValue, bytes_of_lines, front_done, front_of, front_step, is_ended, step}
+use Rattle.scenario_reader.specs.States.{State, AtHeader, AmongSite, AmongRobots, InMission, Ended, scenario_in}
+use Rattle.scenario_reader.specs.Tables.{mapped}
+use Rattle.scenario_reader.proofs.Fines.{mapped_ok}
+use Rattle.scenario_reader.proofs.Steps.{step_reached}
 use Rattle.site_lines.specs.declared.fault.Code.{Code}
 use Rattle.site_lines.specs.Lines.{lines_of}
 use Rattle.site_lines.specs.Readings.{onward, read_from}

@@ -1,17 +1,11 @@
 -- The first bad line of a journal is within its text.
-use Rattle.std.proofs.Common.{◌≡◌, ℕ, suc, ◌+◌, ◌≤◌, Bool, true, false, if◌then◌else◌, List, [], ◌∷◌, length, Option, Some, None, Ok, Err, Result, refl, subst, arith}
-use Rattle.std.specs.List.{list_any}
-use Rattle.std.specs.Prelude.{codes}
-use Rattle.std.specs.Str.{bytes_eq}
-use Rattle.fleet_base.specs.declared.entries.Entry.{Entry}
+use Rattle.std.proofs.Common.{◌≡◌, ℕ, suc, ◌+◌, ◌≤◌, Bool, true, false, if◌then◌else◌, List, [], ◌∷◌, length, Ok, Err, Result, arith}
 use Rattle.fleet_names.specs.Names.{Named}
 use Rattle.site_lines.specs.declared.fault.At.{At}
 use Rattle.site_lines.specs.declared.fault.Code.{Code}
-use Rattle.site_lines.specs.declared.fault.Code.TheVariants.{J1, J2, J3}
-use Rattle.site_lines.specs.Lines.{is_feed, is_too_long}
+use Rattle.site_lines.specs.Lines.{is_feed}
 use Rattle.site_lines.specs.Readings.{onward, read_from}
-use Rattle.plan_journal.specs.Entries.{line_of}
-use Rattle.plan_journal.specs.Reading.{Among, Begun, Ended, Front, Progress, behind_line, checked, ended_lines, is_full, is_odd, journal_of, no_front, onto_line, parts_of, read_all, read_line, with_line}
+use Rattle.plan_journal.specs.Reading.{Begun, ended_lines, journal_of, onto_line, read_all, read_line}
 
 -- the first bad line is at most one behind the last
 module _ {S T : Type 0} (step : S → List ℕ → Result S Code) (done : S → Result T Code) (at : At) where

@@ -1,21 +1,15 @@
 -- What is handed on of a refusal, and what is due of a run.
-use Rattle.std.proofs.Common.{◌≡◌, ℕ, ◌+◌, Bool, true, false, if◌then◌else◌, List, drop, Option, Some, None, Ok, Err, Result, refl, sym, ap, subst, ◌∙◌}
+use Rattle.std.proofs.Common.{◌≡◌, ℕ, Option, Some, None, Ok, Err, Result, refl, sym, ap, subst}
 use Rattle.std.specs.Result.{IsErrAnd}
 use Rattle.fleet_model.specs.States.{State}
-use Rattle.fleet_script.specs.Script.{opening_of}
 use Rattle.journal_replay.specs.Differing.{first_differing}
-use Rattle.plan_journal.specs.Reading.{Front, journal_of}
-use Rattle.scenario.specs.Reading.{FrontValue, front_of}
-use Rattle.scenario.specs.Tables.{mapped}
+use Rattle.plan_journal.specs.Reading.{Front}
 use Rattle.site_lines.specs.declared.fault.At.{At}
-use Rattle.site_lines.specs.declared.fault.Code.TheVariants.{T1}
-use Rattle.fleet_replay.specs.Replay.{ReplayValue, numbered_on, printed_or, reached_text, replay_of, replay_text, replay_value, state_or, unless_differs, with_journal, with_tail}
-use Rattle.fleet_replay.specs.Stops.{Fails, Gives, numbered, run_of}
-use Rattle.fleet_replay.specs.Tails.{differing_line, is_tail}
+use Rattle.fleet_replay.specs.Replay.{unless_differs}
+use Rattle.fleet_replay.specs.Stops.{Fails, Gives, run_of}
 use Rattle.fleet_replay.specs.declared.refused.ReplayFault.{ReplayFault}
-use Rattle.fleet_replay.specs.declared.refused.ReplayFault.TheVariants.{Line, Entry as EntryFault}
+use Rattle.fleet_replay.specs.declared.refused.ReplayFault.TheVariants.{Line}
 use Rattle.fleet_replay.specs.declared.refused.TextRefused.{TextRefused}
-use Rattle.fleet_replay.specs.declared.refused.TextRefused.TheVariants.{Fault, NoMemory}
 
 -- a refusal is handed on
 pub handed_on : {X Y : Type 0} (view : X → Y) (result : Result X TextRefused) (due : Result Y ReplayFault) (refused : TextRefused) → IsErrAnd result (λ e. e ≡ refused) → Fails refused due → Gives view result due

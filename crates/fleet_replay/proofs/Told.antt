@@ -1,7 +1,7 @@
 -- What is told of a scenario with a journal behind it.
 use Rattle.std.proofs.Common.{◌≡◌, ℕ, ◌+◌, Bool, true, false, if◌then◌else◌, List, drop, Option, Some, None, Ok, Err, Result, refl, sym, ap, subst, ◌∙◌}
 use Rattle.std.proofs.lemmas.List.{drop-drop}
-use Rattle.coordinator.specs.Books.{Book, opening_of as book_opening, state_of}
+use Rattle.coordinator.specs.Books.{opening_of as book_opening, state_of}
 use Rattle.fleet_base.specs.declared.limits.TheConstants.{MAX_CAP}
 use Rattle.fleet_base.specs.declared.numbers.CellNo.{CellNo}
 use Rattle.fleet_model.specs.Good.{IsGood}
@@ -12,9 +12,9 @@ use Rattle.fleet_script.specs.Script.{opening_of}
 use Rattle.fleet_texts.specs.StateTexts.{state_text}
 use Rattle.journal_replay.specs.Differing.{first_differing}
 use Rattle.plan_journal.specs.Reading.{Front, journal_of}
-use Rattle.scenario.specs.Reading.{FrontValue, front_of}
 use Rattle.scenario.specs.Scenarios.{ScenarioValue}
-use Rattle.scenario.specs.Tables.{mapped}
+use Rattle.scenario_reader.specs.Reading.{FrontValue, front_of}
+use Rattle.scenario_reader.specs.Tables.{mapped}
 use Rattle.site_lines.specs.declared.fault.At.{At}
 use Rattle.site_lines.specs.declared.fault.Code.TheVariants.{T1}
 use Rattle.site_map.specs.Claims.{site_of}

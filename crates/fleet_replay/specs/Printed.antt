@@ -6,7 +6,7 @@ use Rattle.fleet_model.specs.Journals.{IsJournal}
 use Rattle.fleet_script.specs.Script.{opening_of}
 use Rattle.fleet_texts.specs.Texts.{journal_text}
 use Rattle.plan_journal.specs.Printable.{IsPrintable}
-use Rattle.scenario.specs.Reading.{FrontValue, front_of}
+use Rattle.scenario_reader.specs.Reading.{FrontValue, front_of}
 use Rattle.fleet_replay.specs.Replay.{reached_text}
 
 -- behind a scenario the journal of legal entries is printed, each of which can be, and the text of the state that they reach, or nothing more

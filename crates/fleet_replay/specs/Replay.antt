@@ -6,9 +6,9 @@ use Rattle.fleet_script.specs.Script.{opening_of}
 use Rattle.fleet_texts.specs.StateTexts.{state_text}
 use Rattle.journal_replay.specs.Differing.{first_differing}
 use Rattle.plan_journal.specs.Reading.{Front, journal_of}
-use Rattle.scenario.specs.Reading.{FrontValue, front_of}
 use Rattle.scenario.specs.Scenarios.{ScenarioValue}
-use Rattle.scenario.specs.Tables.{mapped}
+use Rattle.scenario_reader.specs.Reading.{FrontValue, front_of}
+use Rattle.scenario_reader.specs.Tables.{mapped}
 use Rattle.site_lines.specs.declared.fault.At.{At}
 use Rattle.site_lines.specs.declared.fault.Code.TheVariants.{T1}
 use Rattle.fleet_replay.specs.Tails.{differing_line, is_tail}

@@ -8,8 +8,8 @@ use Rattle.plan_journal.specs.Left.{front_to}
 use Rattle.plan_journal.specs.Reading.{Front}
 use Rattle.plan_journal.specs.declared.reading.ReadJournalRefused.{ReadJournalRefused}
 use Rattle.plan_journal.specs.declared.reading.ReadJournalRefused.TheVariants as journal
-use Rattle.scenario.specs.declared.stop.ReadRefused.{ReadRefused}
-use Rattle.scenario.specs.declared.stop.ReadRefused.TheVariants as read
+use Rattle.scenario_reader.specs.declared.stop.ReadRefused.{ReadRefused}
+use Rattle.scenario_reader.specs.declared.stop.ReadRefused.TheVariants as read
 use Rattle.site_lines.specs.declared.fault.At.{At}
 use Rattle.fleet_replay.specs.Replay.{unless_differs}
 use Rattle.fleet_replay.specs.declared.journal.Run.{Run}

@@ -8,7 +8,7 @@ ghost use Rattle.fleet_replay.specs.declared.refused.TextRefused.TheVariants.{Fa
 use fleet_base::path::NoMemory;
 use journal_replay::refused::ReplayRefused;
 use plan_journal::reading::ReadJournalRefused;
-use scenario::stop::ReadRefused;
+use scenario_reader::stop::ReadRefused;
 use site_lines::fault::At;
 
 /// What is wrong with a text that isn't replayed.

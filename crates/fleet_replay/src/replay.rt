@@ -9,8 +9,8 @@ use crate::journal::{Run, replay_behind};
 use crate::refused::TextRefused;
 use crate::tail::check_tail;
 use fleet_report::state::state_text;
-use scenario::read::read_front;
 use scenario::scenario::Parts;
+use scenario_reader::read::read_front;
 use std::alloc::Global;
 
 /// The text of the state that a journal reaches, which stands behind its scenario. Behind the

@@ -2,10 +2,10 @@
 use Rattle.std.specs.Prelude.{ℕ, List, Option, Some, None, Result, Ok, Err}
 use Rattle.fleet_model.specs.Lists.{has_cell}
 use Rattle.fleet_base.specs.declared.numbers.CellNo.{CellNo}
-use Rattle.scenario.specs.MissionLines.{goal_named}
-use Rattle.scenario.specs.Reading.{scenario_of}
 use Rattle.scenario.specs.Scenarios.{ScenarioValue}
-use Rattle.scenario.specs.SiteLines.{cell_named}
+use Rattle.scenario_reader.specs.MissionLines.{goal_named}
+use Rattle.scenario_reader.specs.Reading.{scenario_of}
+use Rattle.scenario_reader.specs.SiteLines.{cell_named}
 use Rattle.site_lines.specs.declared.fault.At.{At}
 use Rattle.site_map.specs.Goals.{goal_cells}
 use Rattle.site_map.specs.declared.goal.Goal.{Goal}

@@ -3,8 +3,8 @@ ghost use Rattle.std.specs.Prelude.{◌≡◌, ◌<◌, IfSome};
 ghost use Rattle.fleet_names.specs.Names.{count_of};
 ghost use Rattle.fleet_names.specs.Things.{is_cell};
 ghost use Rattle.site_map.specs.Goals.{IsGoal};
-ghost use Rattle.scenario.specs.MissionLines.{goal_named};
-ghost use Rattle.scenario.specs.SiteLines.{cell_named};
+ghost use Rattle.scenario_reader.specs.MissionLines.{goal_named};
+ghost use Rattle.scenario_reader.specs.SiteLines.{cell_named};
 
 use fleet_base::numbers::CellNo;
 use fleet_names::thing::Thing;

@@ -5,7 +5,7 @@ ghost use Rattle.fleet_route.specs.Stops.{of_scenario};
 ghost use Rattle.fleet_route.specs.declared.refused.Untold.TheVariants.{NoMemory as OutOfMemory};
 
 use fleet_base::path::NoMemory;
-use scenario::stop::ReadRefused;
+use scenario_reader::stop::ReadRefused;
 use site_lines::fault::At;
 
 /// Why a route that is asked for isn't looked for; the first cause in this order.

@@ -7,7 +7,7 @@ ghost use Rattle.fleet_route.specs.Stops.{Gives};
 use crate::named::{cell_named, goal_named};
 use crate::refused::{Refusal, Untold};
 use crate::telling::route_text;
-use scenario::read::read_scenario;
+use scenario_reader::read::read_scenario;
 use std::alloc::Global;
 
 /// The text of the least route from a cell to a cell or an area of the scenario that the text is,

@@ -7,9 +7,9 @@ use Rattle.fleet_commands.specs.declared.command.Command.{Command}
 use Rattle.fleet_model.specs.Calls.{Call}
 use Rattle.fleet_model.specs.States.{State, start_state}
 use Rattle.fleet_texts.specs.Samples.{run_text}
-use Rattle.scenario.specs.Reading.{FrontValue, front_of}
 use Rattle.scenario.specs.Scenarios.{ScenarioValue}
-use Rattle.scenario.specs.Tables.{mapped}
+use Rattle.scenario_reader.specs.Reading.{FrontValue, front_of}
+use Rattle.scenario_reader.specs.Tables.{mapped}
 use Rattle.site_lines.specs.declared.fault.At.{At}
 use Rattle.site_map.specs.Claims.{site_of}
 

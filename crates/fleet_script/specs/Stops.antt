@@ -6,8 +6,8 @@ use Rattle.fleet_script.specs.Script.{ScriptValue}
 use Rattle.fleet_script.specs.declared.refused.ScriptRefused.{ScriptRefused}
 use Rattle.fleet_script.specs.declared.refused.ScriptRefused.TheVariants.{Bad, NoMemory}
 use Rattle.fleet_script.specs.declared.reading.Script.{Script}
-use Rattle.scenario.specs.declared.stop.ReadRefused.{ReadRefused}
-use Rattle.scenario.specs.declared.stop.ReadRefused.TheVariants as read
+use Rattle.scenario_reader.specs.declared.stop.ReadRefused.{ReadRefused}
+use Rattle.scenario_reader.specs.declared.stop.ReadRefused.TheVariants as read
 use Rattle.site_lines.specs.declared.fault.At.{At}
 
 -- a refusal of the reader of scenarios, and of the reader of commands

@@ -7,7 +7,6 @@ ghost use Rattle.fleet_names.specs.Names.{Named};
 ghost use Rattle.fleet_script.specs.Carried.{AreAnswered, HasGoal, IsAnswered};
 ghost use Rattle.site_map.specs.Goals.{IsGoal, goal_cells};
 
-use route_plan::goals::goal_set;
 use coordinator::coordinator::Coordinator;
 use fleet_base::answers::{ProposeRefused, ReplanRefused, RetryRefused};
 use fleet_base::numbers::{EventNo, RobotNo};
@@ -20,6 +19,7 @@ use fleet_texts::answers::{
     push_withdraw_refused, push_withdrawn,
 };
 use fleet_texts::pushing::push_text;
+use route_plan::goals::goal_set;
 use site_map::goal::Goal;
 
 // Carries commands out, one after the other, and appends a line for each answer.

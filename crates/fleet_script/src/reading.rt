@@ -7,8 +7,8 @@ ghost use Rattle.fleet_script.specs.Stops.{Gives, script_value};
 use crate::refused::ScriptRefused;
 use fleet_commands::command::Command;
 use fleet_commands::read::read_commands;
-use scenario::read::read_front;
 use scenario::scenario::Scenario;
+use scenario_reader::read::read_front;
 use std::alloc::Global;
 
 // A scenario, and the commands behind it.

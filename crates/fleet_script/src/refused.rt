@@ -6,7 +6,7 @@ ghost use Rattle.fleet_script.specs.declared.refused.ScriptRefused.TheVariants.{
 
 use fleet_base::path::NoMemory;
 use fleet_commands::refused::ReadRefused as CommandsRefused;
-use scenario::stop::ReadRefused;
+use scenario_reader::stop::ReadRefused;
 use site_lines::fault::At;
 
 /// Why a text isn't carried out as a script.

@@ -10,7 +10,6 @@ use Rattle.site_lines.specs.Lines.{is_too_long}
 use Rattle.fleet_base.specs.declared.entries.Entry.{Entry}
 use Rattle.fleet_names.specs.Names.{Named}
 use Rattle.site_lines.specs.Readings.{read_from}
-use Rattle.site_lines.specs.declared.fault.At.{At}
 use Rattle.site_lines.specs.declared.fault.Code.{Code}
 use Rattle.site_lines.specs.declared.fault.Code.TheVariants.{J1, J2, J3, J9}
 use Rattle.plan_journal.specs.declared.lines.LineRefused.{LineRefused}

@@ -84,7 +84,13 @@ fn a_journal_is_read_line_by_line(rt: HostRuntime) -> Result<(), Fail> {
     let second = read_entry(rt.alloc(), text, &names, &mut place).map(|_| ());
     assert_eq!(rt; second, bad);
     assert_eq!(rt; place, behind);
-    assert_eq!(rt; read_header(b"journal 2\n"), Err(At { line: 1, code: Code::J3 }));
+    assert_eq!(rt;
+        read_header(b"journal 2\n"),
+        Err(At {
+            line: 1,
+            code: Code::J3
+        })
+    );
     Ok(())
 }
 

@@ -1,16 +1,3 @@
-pub mod Accepted
-pub mod Fines
-pub mod Fronts
-pub mod FrontSizes
-pub mod Lanes
-pub mod Links
-pub mod Loops
-pub mod Naming
 pub mod Openings
 pub mod Prints
-pub mod Reached
-pub mod Repeats
-pub mod Sound
-pub mod Steps
-pub mod Tables
 pub mod Wholes

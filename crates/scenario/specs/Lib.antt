@@ -1,12 +1,3 @@
 pub mod Scenarios
 pub mod Parts
-pub mod Tables
-pub mod States
-pub mod SiteLines
-pub mod FleetLines
-pub mod MissionLines
-pub mod Keywords
-pub mod Reading
 pub mod Canonical
-pub mod Kept
-pub mod Readers

@@ -1,21 +1,10 @@
-//! Scenarios: their text, read and printed.
+//! Scenarios: the value, and its printed text.
 #![tactic(auto)]
 
-mod fleet;
 mod flows;
-mod ground;
-mod keyword;
-pub mod laws;
 mod lines;
-mod mission;
 pub mod missions;
-mod named;
 pub mod print;
-pub mod read;
-mod reader;
-pub mod samples;
 pub mod scenario;
-pub mod stop;
 #[cfg(test)]
 mod tests;
-mod words;

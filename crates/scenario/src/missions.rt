@@ -1,6 +1,7 @@
 //! Missions: the legs of each robot.
 
-ghost use Rattle.std.specs.Prelude.{◌≡◌, ◌<◌, ◌≤◌, ◌∷◌, ◌++◌, [], length, replicate, slice_set, slice_index_or, All, IfOk, OnOk, OnErr};
+ghost use Rattle.std.specs.Prelude.{◌≡◌, ◌<◌, ◌≤◌, ◌∷◌, ◌++◌, [], length, map, replicate, slice_set, slice_index_or, All, IfOk, OnOk, OnErr};
+ghost use Rattle.std.specs.Option.{unwrap_or};
 ghost use Rattle.fleet_base.specs.declared.limits.TheConstants.{MAX_LEGS};
 ghost use Rattle.scenario.specs.Scenarios.{legs_of};
 
@@ -10,9 +11,9 @@ use site_map::goal::Goal;
 use std::alloc::Global;
 use std::marker::Model;
 
-// The legs of one mission, in order.
+/// The legs of one mission, in order. Contracts see the list of their goals.
 #[derive(Drop)]
-pub(crate) struct Legs {
+pub struct Legs {
     pub(crate) goals: Vec<Goal>,
 }
 
@@ -26,8 +27,8 @@ impl Model for Legs {
 }
 
 impl Legs {
-    // No legs. It takes no memory.
-    pub(crate) fn new(alloc: Global) -> Legs
+    /// No legs. It takes no memory.
+    pub fn new(alloc: Global) -> Legs
         ensures { result ≡ [] }
     {
         Legs {
@@ -35,16 +36,16 @@ impl Legs {
         }
     }
 
-    // One more leg.
-    pub(crate) fn push(&mut self, goal: Goal) -> Result<(), NoMemory>
+    /// One more leg. Where no memory is left, the legs stay as they were.
+    pub fn push(&mut self, goal: Goal) -> Result<(), NoMemory>
         ensures ok { OnOk result (self.new ≡ self.old ++ goal ∷ []) }
         ensures err { OnErr result (self.new ≡ self.old) }
     {
         Ok(self.goals.extend_from_slice(&[goal])?)
     }
 
-    // Other legs behind these.
-    pub(crate) fn append(&mut self, more: &Legs) -> Result<(), NoMemory>
+    /// Other legs behind these. Where no memory is left, the legs stay as they were.
+    pub fn append(&mut self, more: &Legs) -> Result<(), NoMemory>
         ensures ok { OnOk result (self.new ≡ self.old ++ more.now) }
         ensures err { OnErr result (self.new ≡ self.old) }
     {
@@ -58,8 +59,8 @@ impl Legs {
         &self.goals
     }
 
-    // How many legs there are.
-    pub(crate) fn len(&self) -> usize
+    /// How many legs there are.
+    pub fn len(&self) -> usize
         ensures { result ≡ length self.now }
     {
         self.goals.len()
@@ -128,4 +129,18 @@ impl Missions {
     {
         self.robots.len()
     }
+}
+
+/// The missions of robots of which these are the legs; a robot without any is given none.
+pub fn missions_of(alloc: Global, given: Vec<Option<Legs>>) -> Result<Missions, NoMemory>
+    requires { All (λ m. length (unwrap_or m []) ≤ MAX_LEGS) given.items }
+    ensures { IfOk result (λ missions. missions ≡ map (λ m. unwrap_or m []) given.items) }
+{
+    let mut robots = Vec::new(alloc);
+    for legs in given {
+        if robots.push(legs.unwrap_or(Legs::new(alloc))).is_err() {
+            return Err(NoMemory);
+        }
+    }
+    Ok(Missions { robots })
 }

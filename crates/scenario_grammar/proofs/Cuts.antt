@@ -4,7 +4,7 @@ use Rattle.std.specs.List.{onto_first}
 use Rattle.std.proofs.lemmas.Bool.{cases_Bool, eqb-true}
 use Rattle.std.proofs.lemmas.List.{append-nil}
 use Rattle.site_lines.specs.Lines.{is_feed, lines_of}
-use Rattle.scenario.specs.Reading.{bytes_of_lines}
+use Rattle.scenario_reader.specs.Reading.{bytes_of_lines}
 use Rattle.scenario_grammar.specs.Grammar.{EndsInFeed}
 
 -- the front of a text with these lines, of whole lines

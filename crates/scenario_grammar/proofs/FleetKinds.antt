@@ -13,13 +13,13 @@ use Rattle.fleet_names.specs.Names.{Named, is_name, thing_of}
 use Rattle.site_lines.specs.Numbers.{is_number}
 use Rattle.site_map.specs.declared.goal.Goal.{Goal}
 use Rattle.site_map.specs.declared.goal.Goal.TheVariants as goals
-use Rattle.scenario.specs.FleetLines.{as_robot, end_line, end_rows, mission_line, mission_rows, robot_at, robot_line, robot_named, robot_rows}
-use Rattle.scenario.specs.MissionLines.{again_line, again_rows, as_goal, done_line, done_rows, goal_at, goal_named, innermost, opened, outer, repeated, repeat_line, repeat_rows, visit_line, visit_rows}
 use Rattle.scenario.specs.Scenarios.{do_conflict}
-use Rattle.scenario.specs.SiteLines.{cell_at, cell_named}
-use Rattle.scenario.specs.States.{Block, Declared, Mission}
-use Rattle.scenario.specs.Tables.{judged}
-use Rattle.scenario.proofs.Fines.{fines, judged_fine}
+use Rattle.scenario_reader.specs.FleetLines.{as_robot, end_line, end_rows, mission_line, mission_rows, robot_at, robot_line, robot_named, robot_rows}
+use Rattle.scenario_reader.specs.MissionLines.{again_line, again_rows, as_goal, done_line, done_rows, goal_at, goal_named, innermost, opened, outer, repeated, repeat_line, repeat_rows, visit_line, visit_rows}
+use Rattle.scenario_reader.specs.SiteLines.{cell_at, cell_named}
+use Rattle.scenario_reader.specs.States.{Block, Declared, Mission}
+use Rattle.scenario_reader.specs.Tables.{judged}
+use Rattle.scenario_reader.proofs.Fines.{fines, judged_fine}
 use Rattle.scenario_grammar.specs.Grammar.{Denotes, IsNumber, IsRobot, Word, goal_thing, times, with_named_robot}
 use Rattle.scenario_grammar.proofs.LinkKinds.{at_denotes, cell_at_is}
 use Rattle.scenario_grammar.proofs.Names.{has_cell_name, in_range, is_free, new_is, number_is}

@@ -8,13 +8,13 @@ use Rattle.site_lines.specs.declared.fault.Code.{Code}
 use Rattle.site_lines.specs.Lines.{lines_of, without_return}
 use Rattle.site_lines.specs.Words.{words_of}
 use Rattle.site_lines.specs.Readings.{onward, read_from}
-use Rattle.scenario.specs.Keywords.{keyword_of}
-use Rattle.scenario.specs.MissionLines.{again_line, done_line, repeat_line, visit_line}
-use Rattle.scenario.specs.Reading.{FrontValue, bytes_of_lines, closed, front_done, front_of, front_step, is_ended, leg_line, step, worded_line}
 use Rattle.scenario.specs.Scenarios.{ScenarioValue}
-use Rattle.scenario.specs.States.{Declared, Mission, State, AtHeader, AmongSite, AmongRobots, InMission, Ended, scenario_in}
-use Rattle.scenario.specs.Tables.{mapped}
-use Rattle.scenario.proofs.Fines.{mapped_ok}
+use Rattle.scenario_reader.specs.Keywords.{keyword_of}
+use Rattle.scenario_reader.specs.MissionLines.{again_line, done_line, repeat_line, visit_line}
+use Rattle.scenario_reader.specs.Reading.{FrontValue, bytes_of_lines, closed, front_done, front_of, front_step, is_ended, leg_line, step, worded_line}
+use Rattle.scenario_reader.specs.States.{Declared, Mission, State, AtHeader, AmongSite, AmongRobots, InMission, Ended, scenario_in}
+use Rattle.scenario_reader.specs.Tables.{mapped}
+use Rattle.scenario_reader.proofs.Fines.{mapped_ok}
 use Rattle.scenario_grammar.specs.Grammar.{IsFront, Line, SaysScenario, Word}
 use Rattle.scenario_grammar.proofs.Cuts.{cut_at, joined_bytes, joined_lines, same_head}
 use Rattle.scenario_grammar.proofs.Keywords.{Kind, kind_of}

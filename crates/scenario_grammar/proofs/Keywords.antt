@@ -3,7 +3,7 @@ use Rattle.std.proofs.Common.{◌≡◌, ⊎_elim, true, false, codes, None, ref
 use Rattle.std.specs.Str.{bytes_eq}
 use Rattle.std.proofs.lemmas.Bool.{cases_Bool}
 use Rattle.std.proofs.lemmas.Slice.Eq.{bytes_eq-Decides}
-use Rattle.scenario.specs.Keywords.{keyword_of}
+use Rattle.scenario_reader.specs.Keywords.{keyword_of}
 use Rattle.scenario_grammar.specs.Grammar.{Word}
 
 -- a word is one of the keywords, or none

@@ -10,10 +10,10 @@ use Rattle.fleet_names.specs.Names.{Named, is_name}
 use Rattle.site_lines.specs.Numbers.{is_number}
 use Rattle.site_lines.specs.Readings.{Row}
 use Rattle.site_map.specs.Built.{link_total}
-use Rattle.scenario.specs.SiteLines.{are_cells, cell_at, cell_named, ends_rows, has_link, is_out_of, lane_line, lane_rows, link_line, link_rows}
-use Rattle.scenario.specs.States.{Declared}
-use Rattle.scenario.specs.Tables.{judged}
-use Rattle.scenario.proofs.Fines.{fines, judged_fine}
+use Rattle.scenario_reader.specs.SiteLines.{are_cells, cell_at, cell_named, ends_rows, has_link, is_out_of, lane_line, lane_rows, link_line, link_rows}
+use Rattle.scenario_reader.specs.States.{Declared}
+use Rattle.scenario_reader.specs.Tables.{judged}
+use Rattle.scenario_reader.proofs.Fines.{fines, judged_fine}
 use Rattle.scenario_grammar.specs.Grammar.{AreEnds, Denotes, IsLane, IsLink, SiteLine, Word, linked}
 use Rattle.scenario_grammar.proofs.Names.{cell_is, cell_of, cells_differ, has_cell_name, in_range, link_none, none_link, number_is, numbers_differ}
 use Rattle.scenario_grammar.proofs.Rows.{NoneFits, judged_ok}

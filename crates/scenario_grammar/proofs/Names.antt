@@ -14,7 +14,7 @@ use Rattle.fleet_names.proofs.Finding.{none_is}
 use Rattle.site_lines.specs.Numbers.{is_number}
 use Rattle.site_map.specs.Built.{BuiltSite, links_at}
 use Rattle.site_map.specs.Cells.{has_repeat}
-use Rattle.scenario.specs.SiteLines.{are_cells, as_cell, as_crossing, cell_named, cells_named, crossing_named, has_link, is_out_of, is_taken}
+use Rattle.scenario_reader.specs.SiteLines.{are_cells, as_cell, as_crossing, cell_named, cells_named, crossing_named, has_link, is_out_of, is_taken}
 use Rattle.scenario_grammar.specs.Grammar.{Denotes, DenoteCells, Differ, HasNoLink, IsNew, IsNumber, Word}
 use Rattle.scenario_grammar.proofs.Rows.{each_fails, fails_each}
 

@@ -5,10 +5,10 @@ use Rattle.fleet_names.specs.Names.{Named}
 use Rattle.site_lines.specs.declared.fault.Code.{Code}
 use Rattle.site_lines.specs.Readings.{next_state}
 use Rattle.site_map.specs.declared.goal.Goal.{Goal}
-use Rattle.scenario.specs.MissionLines.{opened, repeated}
-use Rattle.scenario.specs.Reading.{closed, keyword_line, worded_line}
-use Rattle.scenario.specs.States.{Block, Declared, Mission, State, AtHeader, AmongSite, AmongRobots, InMission, Ended, nothing_declared}
-use Rattle.scenario.proofs.Repeats.{length-repeated}
+use Rattle.scenario_reader.specs.MissionLines.{opened, repeated}
+use Rattle.scenario_reader.specs.Reading.{closed, keyword_line, worded_line}
+use Rattle.scenario_reader.specs.States.{Block, Declared, Mission, State, AtHeader, AmongSite, AmongRobots, InMission, Ended, nothing_declared}
+use Rattle.scenario_reader.proofs.Repeats.{length-repeated}
 use Rattle.scenario_grammar.specs.Grammar.{Denotes, FleetLines, Header, IsNumber, Legs, Line, SiteLines, Word, goal_thing, times}
 use Rattle.scenario_grammar.proofs.FleetKinds.{same_times}
 use Rattle.scenario_grammar.proofs.Steps.{FleetStep, HeaderStep, LegStep, SiteStep, fleet_step, header_step, leg_step, mission_in, site_step, stacked}

@@ -4,7 +4,7 @@ use Rattle.std.specs.List.{AllByRecursion, list_any}
 use Rattle.std.proofs.lemmas.Bool.{false≢true, or_from, or_parts}
 use Rattle.site_lines.specs.declared.fault.Code.{Code}
 use Rattle.site_lines.specs.Readings.{Row, least_code}
-use Rattle.scenario.specs.Tables.{code_or, judged}
+use Rattle.scenario_reader.specs.Tables.{code_or, judged}
 
 -- no row of the table fits
 abbrev pub NoneFits : List Row → Type 0

@@ -5,10 +5,10 @@ use Rattle.std.proofs.lemmas.List.{append-nil}
 use Rattle.std.proofs.lemmas.Nat.{mul-le}
 use Rattle.site_lines.specs.Readings.{next_state}
 use Rattle.site_map.specs.declared.goal.Goal.{Goal}
-use Rattle.scenario.specs.MissionLines.{opened, repeated}
-use Rattle.scenario.specs.Reading.{closed, worded_line}
-use Rattle.scenario.specs.States.{Block, Declared, State, AtHeader, AmongSite, AmongRobots, InMission, Ended, nothing_declared}
-use Rattle.scenario.specs.Tables.{mapped}
+use Rattle.scenario_reader.specs.MissionLines.{opened, repeated}
+use Rattle.scenario_reader.specs.Reading.{closed, worded_line}
+use Rattle.scenario_reader.specs.States.{Block, Declared, State, AtHeader, AmongSite, AmongRobots, InMission, Ended, nothing_declared}
+use Rattle.scenario_reader.specs.Tables.{mapped}
 use Rattle.scenario_grammar.specs.Grammar.{FleetLines, Header, Legs, Line, SiteLine, SiteLines, times, with_named_robot}
 use Rattle.scenario_grammar.proofs.FleetKinds.{again_taken, end_taken, mission_taken, repeat_taken, robot_taken, same_times, visit_taken}
 use Rattle.scenario_grammar.proofs.LinkKinds.{lane_taken, link_taken}

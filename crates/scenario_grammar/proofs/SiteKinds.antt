@@ -12,10 +12,10 @@ use Rattle.site_map.specs.Built.{crossing_at, crossings_with, with_crossing, wit
 use Rattle.site_map.specs.Cells.{has_repeat}
 use Rattle.site_map.specs.Crossings.{completed, crossing_claims, in_flow}
 use Rattle.site_map.specs.Refusals.{has_too_many_claims}
-use Rattle.scenario.specs.SiteLines.{are_cells, area_line, area_rows, cell_line, cell_rows, cells_named, crossing_line, crossing_named, crossing_rows, flow_line, flow_rows, has_taken, is_taken, new_set_rows, old_set_rows, with_cell_name, with_cell_names, with_cells}
-use Rattle.scenario.specs.States.{Declared}
-use Rattle.scenario.specs.Tables.{judged}
-use Rattle.scenario.proofs.Fines.{fines, judged_fine}
+use Rattle.scenario_reader.specs.SiteLines.{are_cells, area_line, area_rows, cell_line, cell_rows, cells_named, crossing_line, crossing_named, crossing_rows, flow_line, flow_rows, has_taken, is_taken, new_set_rows, old_set_rows, with_cell_name, with_cell_names, with_cells}
+use Rattle.scenario_reader.specs.States.{Declared}
+use Rattle.scenario_reader.specs.Tables.{judged}
+use Rattle.scenario_reader.proofs.Fines.{fines, judged_fine}
 use Rattle.scenario_grammar.specs.Grammar.{AreCells, DeclareCells, Denotes, IsArea, IsCrossing, IsFlow, IsNew, SiteLine, Word, with_named_area, with_named_cell, with_named_crossing}
 use Rattle.scenario_grammar.proofs.Names.{cells_are, crossing_is, crossing_of, is_free, named_are, new_is, none_repeat, repeat_none}
 use Rattle.scenario_grammar.proofs.Rows.{each_fails, fails_each, judged_ok}

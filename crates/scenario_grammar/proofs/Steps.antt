@@ -7,14 +7,14 @@ use Rattle.fleet_names.specs.declared.thing.Thing.TheVariants as things
 use Rattle.site_lines.specs.declared.fault.Code.TheVariants.{S3}
 use Rattle.site_lines.specs.declared.fault.Code.{Code}
 use Rattle.site_map.specs.declared.goal.Goal.{Goal}
-use Rattle.scenario.specs.FleetLines.{end_line, mission_line, robot_line}
-use Rattle.scenario.specs.Keywords.{keyword_of}
-use Rattle.scenario.specs.MissionLines.{again_line, done_line, opened, repeated, repeat_line, visit_line}
-use Rattle.scenario.specs.Reading.{closed, fleet_line, header_line, leg_line, site_line}
-use Rattle.scenario.specs.SiteLines.{area_line, cell_line, crossing_line, flow_line, lane_line, link_line}
-use Rattle.scenario.specs.States.{Block, Declared, Mission, State, AmongSite, AmongRobots, InMission, Ended, nothing_declared}
-use Rattle.scenario.specs.Tables.{mapped}
-use Rattle.scenario.proofs.Fines.{mapped_ok}
+use Rattle.scenario_reader.specs.FleetLines.{end_line, mission_line, robot_line}
+use Rattle.scenario_reader.specs.Keywords.{keyword_of}
+use Rattle.scenario_reader.specs.MissionLines.{again_line, done_line, opened, repeated, repeat_line, visit_line}
+use Rattle.scenario_reader.specs.Reading.{closed, fleet_line, header_line, leg_line, site_line}
+use Rattle.scenario_reader.specs.SiteLines.{area_line, cell_line, crossing_line, flow_line, lane_line, link_line}
+use Rattle.scenario_reader.specs.States.{Block, Declared, Mission, State, AmongSite, AmongRobots, InMission, Ended, nothing_declared}
+use Rattle.scenario_reader.specs.Tables.{mapped}
+use Rattle.scenario_reader.proofs.Fines.{mapped_ok}
 use Rattle.scenario_grammar.specs.Grammar.{Denotes, Header, IsNumber, IsRobot, Line, SiteLine, Word, goal_thing, with_named_robot}
 use Rattle.scenario_grammar.proofs.FleetKinds.{again_alone, again_read, done_read, end_read, mission_read, opening, out_of, repeat_read, robot_read, visit_read}
 use Rattle.scenario_grammar.proofs.Keywords.{Kind, kind_of}

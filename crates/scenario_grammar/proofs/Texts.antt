@@ -9,12 +9,12 @@ use Rattle.site_lines.specs.declared.fault.Code.TheVariants.{S1, S2}
 use Rattle.site_lines.specs.Lines.{is_too_long, lines_of, without_return}
 use Rattle.site_lines.specs.Readings.{Row, next_state, onward, read_from}
 use Rattle.site_lines.specs.Words.{before_comment, has_bad_byte, is_bad_byte, words_of}
-use Rattle.scenario.specs.Reading.{done, keyword_line, scenario_of, step, when_fine, worded_line}
 use Rattle.scenario.specs.Scenarios.{IsScenario, ScenarioValue}
-use Rattle.scenario.specs.States.{Declared, State, AtHeader, AmongSite, AmongRobots, InMission, Ended, scenario_in}
-use Rattle.scenario.specs.Tables.{judged, row}
-use Rattle.scenario.proofs.Accepted.{accepted}
-use Rattle.scenario.proofs.Fines.{fines, judged_fine}
+use Rattle.scenario_reader.specs.Reading.{done, keyword_line, scenario_of, step, when_fine, worded_line}
+use Rattle.scenario_reader.specs.States.{Declared, State, AtHeader, AmongSite, AmongRobots, InMission, Ended, scenario_in}
+use Rattle.scenario_reader.specs.Tables.{judged, row}
+use Rattle.scenario_reader.proofs.Accepted.{accepted}
+use Rattle.scenario_reader.proofs.Fines.{fines, judged_fine}
 use Rattle.scenario_grammar.specs.Grammar.{IsInputLine, IsPlain, IsText, Line, SaysScenario, has_words, worded}
 use Rattle.scenario_grammar.proofs.Parse.{AreWorded, OnText, parsed, run}
 use Rattle.scenario_grammar.proofs.Rows.{each_fails, fails_each, judged_ok}

@@ -17,9 +17,9 @@ use Rattle.site_map.specs.Crossings.{completed, crossing_claims, in_flow}
 use Rattle.site_map.specs.declared.goal.Goal.{Goal}
 use Rattle.site_map.specs.declared.goal.Goal.TheVariants as goals
 use Rattle.site_map.specs.declared.refused.TheConstants.{MAX_CROSSING_CLAIMS}
-use Rattle.scenario.specs.Reading.{FrontValue}
 use Rattle.scenario.specs.Scenarios.{ScenarioValue, do_conflict}
-use Rattle.scenario.specs.States.{Declared, nothing_declared, scenario_in}
+use Rattle.scenario_reader.specs.Reading.{FrontValue}
+use Rattle.scenario_reader.specs.States.{Declared, nothing_declared, scenario_in}
 
 -- a word, by its bytes
 abbrev pub Word : Type 0

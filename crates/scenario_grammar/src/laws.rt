@@ -2,8 +2,8 @@
 
 ghost use Rattle.std.specs.Prelude.{◌≡◌, ℕ, List, Ok, Err};
 ghost use Rattle.site_lines.specs.declared.fault.At.{At};
-ghost use Rattle.scenario.specs.Reading.{FrontValue, front_of, scenario_of};
 ghost use Rattle.scenario.specs.Scenarios.{IsScenario, ScenarioValue};
+ghost use Rattle.scenario_reader.specs.Reading.{FrontValue, front_of, scenario_of};
 ghost use Rattle.scenario_grammar.specs.Grammar.{IsFront, IsText};
 
 /// The texts that are read as scenarios are just those of the grammar, and what is read is the

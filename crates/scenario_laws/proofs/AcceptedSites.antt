@@ -22,19 +22,19 @@ use Rattle.site_map.specs.Built.{BuiltSite, link_total, with_cell, with_crossing
 use Rattle.site_map.specs.Cells.{are_known}
 use Rattle.site_map.proofs.CellLemmas.{eqb_turned}
 use Rattle.site_map.specs.Valid.{IsValidSite}
-use Rattle.scenario.specs.FleetLines.{end_line, end_rows, mission_line, robot_line, robot_rows}
-use Rattle.scenario.specs.Kept.{IsReached, IsSound}
-use Rattle.scenario.specs.Keywords.{keyword_of, other_word, site_word}
-use Rattle.scenario.specs.MissionLines.{again_line, done_line, done_rows, repeat_line, visit_line}
-use Rattle.scenario.specs.Reading.{closed, fleet_line, header_line, keyword_line, leg_line, site_line, step, when_fine, worded_line}
-use Rattle.scenario.specs.SiteLines.{has_link, are_cells, area_line, area_rows, as_cell, as_crossing, cell_at, cell_line, cell_named, cell_rows, cells_named, crossing_line, crossing_named, crossing_rows, ends_rows, flow_line, flow_rows, lane_line, lane_rows, link_line, link_rows, linked, new_set_rows, old_set_rows, with_cell_names, with_cells, with_name}
-use Rattle.scenario.specs.States.{Declared, Mission, State, AtHeader, AmongSite, AmongRobots, InMission, Ended, nothing_declared}
-use Rattle.scenario.specs.Tables.{judged, mapped, row, word, IsFine}
-use Rattle.scenario.proofs.Fines.{fines, judged_fine, mapped_ok}
-use Rattle.scenario.proofs.Lanes.{has_back}
-use Rattle.scenario.proofs.Links.{link_total-link}
-use Rattle.scenario.proofs.Naming.{cell_known}
-use Rattle.scenario.proofs.Steps.{step_reached}
+use Rattle.scenario_reader.specs.FleetLines.{end_line, end_rows, mission_line, robot_line, robot_rows}
+use Rattle.scenario_reader.specs.Kept.{IsReached, IsSound}
+use Rattle.scenario_reader.specs.Keywords.{keyword_of, other_word, site_word}
+use Rattle.scenario_reader.specs.MissionLines.{again_line, done_line, done_rows, repeat_line, visit_line}
+use Rattle.scenario_reader.specs.Reading.{closed, fleet_line, header_line, keyword_line, leg_line, site_line, step, when_fine, worded_line}
+use Rattle.scenario_reader.specs.SiteLines.{has_link, are_cells, area_line, area_rows, as_cell, as_crossing, cell_at, cell_line, cell_named, cell_rows, cells_named, crossing_line, crossing_named, crossing_rows, ends_rows, flow_line, flow_rows, lane_line, lane_rows, link_line, link_rows, linked, new_set_rows, old_set_rows, with_cell_names, with_cells, with_name}
+use Rattle.scenario_reader.specs.States.{Declared, Mission, State, AtHeader, AmongSite, AmongRobots, InMission, Ended, nothing_declared}
+use Rattle.scenario_reader.specs.Tables.{judged, mapped, row, word, IsFine}
+use Rattle.scenario_reader.proofs.Fines.{fines, judged_fine, mapped_ok}
+use Rattle.scenario_reader.proofs.Lanes.{has_back}
+use Rattle.scenario_reader.proofs.Links.{link_total-link}
+use Rattle.scenario_reader.proofs.Naming.{cell_known}
+use Rattle.scenario_reader.proofs.Steps.{step_reached}
 use Rattle.scenario_laws.proofs.PartSites.{IsPart, area_part, cell_part, closed_part, crossing_part, flow_part, link_part, no_part}
 
 -- cells that are all named are known

@@ -1,9 +1,9 @@
 -- What any accepted text declares is declared again by its printed text.
 use Rattle.std.proofs.Common.{◌≡◌, ℕ, List, Ok, subst}
 use Rattle.site_map.specs.Valid.{IsValidSite}
-use Rattle.scenario.specs.Kept.{IsReached}
-use Rattle.scenario.specs.Reading.{scenario_of}
 use Rattle.scenario.specs.Scenarios.{ScenarioValue}
+use Rattle.scenario_reader.specs.Kept.{IsReached}
+use Rattle.scenario_reader.specs.Reading.{scenario_of}
 use Rattle.scenario_laws.proofs.AcceptedSites.{IsFit, step_fit}
 use Rattle.scenario_laws.proofs.Ends.{kept_to_end}
 

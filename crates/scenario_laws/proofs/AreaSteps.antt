@@ -18,10 +18,10 @@ use Rattle.site_map.specs.Cells.{in_order}
 use Rattle.site_map.specs.Crossings.{BuiltCrossing}
 use Rattle.site_map.specs.Inside.{AreCells}
 use Rattle.scenario.specs.Canonical.{cell_names, name}
-use Rattle.scenario.specs.Reading.{step}
-use Rattle.scenario.specs.SiteLines.{are_cells, area_line, area_rows, new_set_rows, with_name}
-use Rattle.scenario.specs.States.{Declared, State, AmongSite}
-use Rattle.scenario.specs.Tables.{judged}
+use Rattle.scenario_reader.specs.Reading.{step}
+use Rattle.scenario_reader.specs.SiteLines.{are_cells, area_line, area_rows, new_set_rows, with_name}
+use Rattle.scenario_reader.specs.States.{Declared, State, AmongSite}
+use Rattle.scenario_reader.specs.Tables.{judged}
 use Rattle.scenario_laws.proofs.RoundTrip.{area_line_of, names_upto, steps}
 use Rattle.scenario_laws.proofs.CanonicalLines.{name_words}
 use Rattle.scenario_laws.proofs.CanonicalNames.{known_named, upto_free}

@@ -15,8 +15,8 @@ use Rattle.fleet_names.specs.Names.{is_name, is_name_byte}
 use Rattle.site_lines.specs.Lines.{is_too_long, without_return}
 use Rattle.site_lines.specs.Numbers.{is_number}
 use Rattle.site_lines.specs.Words.{has_bad_byte, has_bytes, is_bad_byte, is_word_byte, text_behind, words_of}
-use Rattle.scenario.specs.Reading.{keyword_line, step}
-use Rattle.scenario.specs.States.{State}
+use Rattle.scenario_reader.specs.Reading.{keyword_line, step}
+use Rattle.scenario_reader.specs.States.{State}
 use Rattle.scenario_laws.proofs.RoundTrip.{bare_line}
 
 -- each word is a name

@@ -13,10 +13,10 @@ use Rattle.fleet_names.specs.Names.{AreDeclared, Named, is_name, thing_of}
 use Rattle.site_map.specs.Built.{BuiltSite}
 use Rattle.site_map.specs.Valid.{IsValidSite}
 use Rattle.scenario.specs.Canonical.{cell_names, name}
-use Rattle.scenario.specs.Reading.{step}
 use Rattle.scenario.specs.Scenarios.{NamesAll}
-use Rattle.scenario.specs.SiteLines.{are_cells, cell_line, cell_rows, cells_named}
-use Rattle.scenario.specs.States.{AtHeader, AmongSite, nothing_declared}
+use Rattle.scenario_reader.specs.Reading.{step}
+use Rattle.scenario_reader.specs.SiteLines.{are_cells, cell_line, cell_rows, cells_named}
+use Rattle.scenario_reader.specs.States.{AtHeader, AmongSite, nothing_declared}
 use Rattle.scenario_laws.proofs.RoundTrip.{bare_line, cell_line_of, header_line_of, names_upto, steps}
 use Rattle.scenario_laws.proofs.CanonicalLines.{step_worded}
 use Rattle.scenario_laws.proofs.CanonicalNames.{IsKnown, known_named, upto_found, upto_free}

@@ -21,10 +21,10 @@ use Rattle.site_map.specs.Refusals.{has_too_many_claims}
 use Rattle.site_map.specs.Valid.{IsCrossingIn}
 use Rattle.site_map.proofs.CellLemmas.{has_each}
 use Rattle.scenario.specs.Canonical.{cell_names, name}
-use Rattle.scenario.specs.Reading.{step}
-use Rattle.scenario.specs.SiteLines.{are_cells, as_crossing, crossing_line, crossing_named, crossing_rows, flow_line, flow_rows, new_set_rows, old_set_rows, with_name}
-use Rattle.scenario.specs.States.{Declared, State, AmongSite}
-use Rattle.scenario.specs.Tables.{judged}
+use Rattle.scenario_reader.specs.Reading.{step}
+use Rattle.scenario_reader.specs.SiteLines.{are_cells, as_crossing, crossing_line, crossing_named, crossing_rows, flow_line, flow_rows, new_set_rows, old_set_rows, with_name}
+use Rattle.scenario_reader.specs.States.{Declared, State, AmongSite}
+use Rattle.scenario_reader.specs.Tables.{judged}
 use Rattle.scenario_laws.proofs.RoundTrip.{bare_line, crossing_lines_of, flow_line_of, names_upto, steps}
 use Rattle.scenario_laws.proofs.CanonicalLines.{name_words}
 use Rattle.scenario_laws.proofs.CanonicalNames.{known_named, upto_found, upto_free}

@@ -4,11 +4,11 @@ use Rattle.fleet_names.specs.Names.{AreDeclared}
 use Rattle.site_lines.specs.Lines.{lines_of}
 use Rattle.site_lines.specs.Readings.{onward, read_from}
 use Rattle.site_lines.specs.declared.fault.Code.{Code}
-use Rattle.scenario.specs.Kept.{IsReached}
-use Rattle.scenario.specs.Reading.{done, scenario_of, step}
 use Rattle.scenario.specs.Scenarios.{ScenarioValue}
-use Rattle.scenario.specs.States.{Declared, State, AtHeader, AmongSite, AmongRobots, InMission, Ended, scenario_in}
-use Rattle.scenario.proofs.Steps.{step_reached}
+use Rattle.scenario_reader.specs.Kept.{IsReached}
+use Rattle.scenario_reader.specs.Reading.{done, scenario_of, step}
+use Rattle.scenario_reader.specs.States.{Declared, State, AtHeader, AmongSite, AmongRobots, InMission, Ended, scenario_in}
+use Rattle.scenario_reader.proofs.Steps.{step_reached}
 
 -- a text whose end keeps it, and declares the scenario
 pub record IsEnd (P : State → Type 0) (value : ScenarioValue) : Type 0 where

@@ -13,11 +13,11 @@ use Rattle.fleet_names.specs.Names.{AreDeclared, is_name}
 use Rattle.site_map.specs.Goals.{IsGoal}
 use Rattle.site_map.specs.declared.goal.Goal.{Goal}
 use Rattle.scenario.specs.Canonical.{goal_thing, name}
-use Rattle.scenario.specs.FleetLines.{end_rows}
-use Rattle.scenario.specs.Reading.{closed, keyword_line, step}
 use Rattle.scenario.specs.Scenarios.{ScenarioValue, IsScenario, legs_of}
-use Rattle.scenario.specs.States.{Declared, Mission, State, AmongRobots, AmongSite, Ended, InMission}
-use Rattle.scenario.specs.Tables.{mapped}
+use Rattle.scenario_reader.specs.FleetLines.{end_rows}
+use Rattle.scenario_reader.specs.Reading.{closed, keyword_line, step}
+use Rattle.scenario_reader.specs.States.{Declared, Mission, State, AmongRobots, AmongSite, Ended, InMission}
+use Rattle.scenario_reader.specs.Tables.{mapped}
 use Rattle.scenario_laws.proofs.RoundTrip.{bare_line, canonical_names_of, fleet_lines_of, leg_line_of, mission_lines_of, robot_line_of, steps}
 use Rattle.scenario_laws.proofs.Missions.{done_accepted, goal_good, leg_accepted, legs_few, legs_known, mission_accepted, missions_at, none_told, none_told_yet, robot_good, told}
 use Rattle.scenario_laws.proofs.Robots.{good_cell, good_robot, names_at, no_mission, robot_accepted, robots_at}

@@ -11,11 +11,11 @@ use Rattle.site_lines.specs.Readings.{next_state, onward, read_from}
 use Rattle.site_lines.specs.Words.{words_of}
 use Rattle.site_map.specs.Valid.{IsValidSite}
 use Rattle.scenario.specs.Canonical.{canonical_text}
-use Rattle.scenario.specs.Reading.{FrontValue, bytes_of_lines, front_done, front_of, front_step, is_ended, step, when_fine, worded_line}
 use Rattle.scenario.specs.Scenarios.{IsScenario, ScenarioValue}
-use Rattle.scenario.specs.States.{Declared, State, AtHeader, AmongSite, AmongRobots, InMission, Ended}
-use Rattle.scenario.specs.Tables.{mapped}
-use Rattle.scenario.proofs.Fronts.{front_found, front_takes}
+use Rattle.scenario_reader.specs.Reading.{FrontValue, bytes_of_lines, front_done, front_of, front_step, is_ended, step, when_fine, worded_line}
+use Rattle.scenario_reader.specs.States.{Declared, State, AtHeader, AmongSite, AmongRobots, InMission, Ended}
+use Rattle.scenario_reader.specs.Tables.{mapped}
+use Rattle.scenario_reader.proofs.Fronts.{front_found, front_takes}
 use Rattle.scenario_laws.proofs.RoundTrip.{bare_line, fleet_lines_of, site_lines_of, steps}
 use Rattle.scenario_laws.proofs.CanonicalLines.{step_worded}
 use Rattle.scenario_laws.proofs.CellSteps.{has_flows}

@@ -22,10 +22,10 @@ use Rattle.site_map.specs.Inside.{AreLinks}
 use Rattle.site_map.proofs.CellLemmas.{eqb_turned}
 use Rattle.site_map.proofs.SiteLemmas.{links_at_cell}
 use Rattle.scenario.specs.Canonical.{name}
-use Rattle.scenario.specs.Reading.{step}
-use Rattle.scenario.specs.SiteLines.{are_cells, as_cell, cell_at, cell_named, ends_rows, has_link, link_line, link_rows, linked}
-use Rattle.scenario.specs.States.{Declared, State, AmongSite}
-use Rattle.scenario.specs.Tables.{judged}
+use Rattle.scenario_reader.specs.Reading.{step}
+use Rattle.scenario_reader.specs.SiteLines.{are_cells, as_cell, cell_at, cell_named, ends_rows, has_link, link_line, link_rows, linked}
+use Rattle.scenario_reader.specs.States.{Declared, State, AmongSite}
+use Rattle.scenario_reader.specs.Tables.{judged}
 use Rattle.scenario_laws.proofs.RoundTrip.{link_line_of, link_lines_of, names_upto, steps}
 use Rattle.scenario_laws.proofs.CanonicalLines.{number_is, number_named, number_value}
 use Rattle.scenario_laws.proofs.CellSteps.{IsNamedSite, cell_found, cell_good}

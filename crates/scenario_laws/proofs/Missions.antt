@@ -14,12 +14,12 @@ use Rattle.site_map.specs.Goals.{IsGoal}
 use Rattle.site_map.specs.declared.goal.Goal.{Goal}
 use Rattle.site_map.specs.declared.goal.Goal.TheVariants as goals
 use Rattle.scenario.specs.Canonical.{goal_thing, name}
-use Rattle.scenario.specs.FleetLines.{as_robot, mission_rows, robot_named}
-use Rattle.scenario.specs.MissionLines.{as_goal, goal_named, visit_rows}
-use Rattle.scenario.specs.Reading.{keyword_line}
 use Rattle.scenario.specs.Scenarios.{ScenarioValue, IsMission, IsScenario, legs_of}
-use Rattle.scenario.specs.States.{Declared, Mission, AmongRobots, InMission}
-use Rattle.scenario.specs.Tables.{mapped}
+use Rattle.scenario_reader.specs.FleetLines.{as_robot, mission_rows, robot_named}
+use Rattle.scenario_reader.specs.MissionLines.{as_goal, goal_named, visit_rows}
+use Rattle.scenario_reader.specs.Reading.{keyword_line}
+use Rattle.scenario_reader.specs.States.{Declared, Mission, AmongRobots, InMission}
+use Rattle.scenario_reader.specs.Tables.{mapped}
 use Rattle.scenario_laws.proofs.CanonicalNames.{Covers, limit_of, upto_found, upto_known}
 use Rattle.scenario_laws.proofs.Robots.{covered, names_at}
 use Rattle.scenario_laws.proofs.StepLists.{fine}

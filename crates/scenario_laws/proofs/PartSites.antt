@@ -21,8 +21,8 @@ use Rattle.site_map.proofs.BuilderLemmas.{AreCells-grown, AreLines-line, AreLine
 use Rattle.site_map.proofs.CellLemmas.{AreCells-in_order, has_cell-in_order, none_has}
 use Rattle.site_map.proofs.LinkLemmas.{All-with_one_more, LinksRise-with_one_more}
 use Rattle.site_map.proofs.ValidLemmas.{crossings_in, crossings_with-completed}
-use Rattle.scenario.specs.SiteLines.{has_link}
-use Rattle.scenario.proofs.Links.{link_total-link}
+use Rattle.scenario_reader.specs.SiteLines.{has_link}
+use Rattle.scenario_reader.proofs.Links.{link_total-link}
 use Rattle.scenario_laws.proofs.CrossingFacts.{with_append}
 
 -- the parts of a site are valid, and its flows are lines that the rest will complete

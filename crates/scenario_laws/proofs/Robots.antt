@@ -12,12 +12,12 @@ use Rattle.fleet_names.specs.Names.{Named, AreDeclared, count_of, is_name, thing
 use Rattle.fleet_names.specs.Things.{is_robot}
 use Rattle.site_map.specs.declared.goal.Goal.{Goal}
 use Rattle.scenario.specs.Canonical.{name}
-use Rattle.scenario.specs.FleetLines.{robot_rows}
-use Rattle.scenario.specs.Reading.{keyword_line}
 use Rattle.scenario.specs.Scenarios.{ScenarioValue, IsScenario, do_conflict}
-use Rattle.scenario.specs.SiteLines.{as_cell, cell_at, cell_named, with_name}
-use Rattle.scenario.specs.States.{Declared, AmongRobots}
-use Rattle.scenario.specs.Tables.{mapped}
+use Rattle.scenario_reader.specs.FleetLines.{robot_rows}
+use Rattle.scenario_reader.specs.Reading.{keyword_line}
+use Rattle.scenario_reader.specs.SiteLines.{as_cell, cell_at, cell_named, with_name}
+use Rattle.scenario_reader.specs.States.{Declared, AmongRobots}
+use Rattle.scenario_reader.specs.Tables.{mapped}
 use Rattle.scenario_laws.proofs.RoundTrip.{names_upto}
 use Rattle.scenario_laws.proofs.CanonicalNames.{Covers, robots_counted, robots_more, upto_found, upto_free, upto_known}
 use Rattle.scenario_laws.proofs.StepLists.{fine}

@@ -16,9 +16,9 @@ use Rattle.site_map.specs.Claims.{site_of}
 use Rattle.site_map.specs.Crossings.{BuiltCrossing}
 use Rattle.site_map.specs.declared.goal.Goal.{Goal}
 use Rattle.scenario.specs.Canonical.{cell_names, cells_of_flow, goal_thing, name}
-use Rattle.scenario.specs.Reading.{step}
 use Rattle.scenario.specs.Scenarios.{ScenarioValue, legs_of}
-use Rattle.scenario.specs.States.{State}
+use Rattle.scenario_reader.specs.Reading.{step}
+use Rattle.scenario_reader.specs.States.{State}
 
 -- the state behind lines that are all accepted, or the code of the first that isn't
 abbrev pub steps : State → List (List ℕ) → Result State Code

@@ -15,7 +15,7 @@ use Rattle.fleet_names.specs.Names.{Named, count_of, is_name, thing_of}
 use Rattle.site_map.specs.Built.{BuiltSite}
 use Rattle.scenario.specs.Canonical.{cell_names, name}
 use Rattle.scenario.specs.Scenarios.{NamesAll}
-use Rattle.scenario.specs.SiteLines.{are_cells, as_cell, cells_named}
+use Rattle.scenario_reader.specs.SiteLines.{are_cells, as_cell, cells_named}
 use Rattle.scenario_laws.proofs.RoundTrip.{names_of_each, names_upto}
 use Rattle.scenario_laws.proofs.CanonicalNames.{Covers, counted_all, counted_both, counted_none, each_more}
 

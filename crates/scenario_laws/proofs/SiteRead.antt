@@ -9,9 +9,9 @@ use Rattle.fleet_names.specs.Names.{AreDeclared}
 use Rattle.site_map.specs.Built.{BuiltSite, no_crossing}
 use Rattle.site_map.specs.Crossings.{BuiltCrossing}
 use Rattle.site_map.specs.Valid.{IsValidSite}
-use Rattle.scenario.specs.Reading.{closed}
 use Rattle.scenario.specs.Scenarios.{IsScenario, ScenarioValue}
-use Rattle.scenario.specs.States.{Declared, AmongSite, AtHeader, nothing_declared}
+use Rattle.scenario_reader.specs.Reading.{closed}
+use Rattle.scenario_reader.specs.States.{Declared, AmongSite, AtHeader, nothing_declared}
 use Rattle.scenario_laws.proofs.RoundTrip.{area_line_of, canonical_names_of, cell_line_of, crossing_lines_of, header_line_of, link_lines_of, site_lines_of, steps}
 use Rattle.scenario_laws.proofs.AreaSteps.{areas_read}
 use Rattle.scenario_laws.proofs.CellSteps.{IsNamedSite, cells_read, has_flows, header_read}

@@ -6,9 +6,9 @@ use Rattle.fleet_model.specs.Lists.{numbers_below}
 use Rattle.fleet_names.specs.Names.{Named}
 use Rattle.site_lines.specs.declared.fault.Code.{Code}
 use Rattle.site_map.specs.Built.{BuiltSite}
-use Rattle.scenario.specs.Reading.{keyword_line, step}
-use Rattle.scenario.specs.States.{Declared, State, AmongSite}
-use Rattle.scenario.specs.Tables.{mapped}
+use Rattle.scenario_reader.specs.Reading.{keyword_line, step}
+use Rattle.scenario_reader.specs.States.{Declared, State, AmongSite}
+use Rattle.scenario_reader.specs.Tables.{mapped}
 use Rattle.scenario_laws.proofs.RoundTrip.{bare_line, names_upto, steps}
 use Rattle.scenario_laws.proofs.CanonicalLines.{AreNameWords, step_worded}
 use Rattle.scenario_laws.proofs.StepLists.{lines_more, step_alone, steps_both}

@@ -9,10 +9,10 @@ use Rattle.fleet_model.specs.Lists.{numbers_below}
 use Rattle.site_lines.specs.declared.fault.Code.{Code}
 use Rattle.site_lines.specs.Readings.{Row, least_code, next_state, onward, read_from}
 use Rattle.site_map.proofs.CellLemmas.{numbers_below_push}
-use Rattle.scenario.specs.Reading.{done, step}
 use Rattle.scenario.specs.Scenarios.{ScenarioValue}
-use Rattle.scenario.specs.States.{State}
-use Rattle.scenario.specs.Tables.{code_or, judged}
+use Rattle.scenario_reader.specs.Reading.{done, step}
+use Rattle.scenario_reader.specs.States.{State}
+use Rattle.scenario_reader.specs.Tables.{code_or, judged}
 use Rattle.scenario_laws.proofs.RoundTrip.{steps}
 
 then_others : (r : Result State Code) (xs ys : List (List ℕ)) (t : State) → ((u : State) → steps u xs ≡ Ok t → steps u (xs ++ ys) ≡ steps t ys)

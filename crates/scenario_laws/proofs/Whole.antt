@@ -15,9 +15,9 @@ use Rattle.site_map.specs.Inside.{AreLinks}
 use Rattle.site_map.specs.Valid.{IsValidSite}
 use Rattle.site_map.proofs.SiteLemmas.{links_at_cell}
 use Rattle.scenario.specs.Canonical.{canonical_text}
-use Rattle.scenario.specs.Reading.{done, scenario_of, step}
 use Rattle.scenario.specs.Scenarios.{IsScenario, ScenarioValue}
-use Rattle.scenario.specs.States.{AmongSite, AtHeader, Ended, scenario_in}
+use Rattle.scenario_reader.specs.Reading.{done, scenario_of, step}
+use Rattle.scenario_reader.specs.States.{AmongSite, AtHeader, Ended, scenario_in}
 use Rattle.site_lines.specs.Readings.{read_from}
 use Rattle.scenario_laws.proofs.RoundTrip.{fleet_lines_of, site_lines_of}
 use Rattle.scenario_laws.specs.Same.{IsSame}

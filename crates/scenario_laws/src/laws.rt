@@ -3,8 +3,8 @@
 ghost use Rattle.std.specs.Prelude.{◌≡◌, ℕ, List, ◌++◌, length, Ok};
 ghost use Rattle.fleet_names.specs.Names.{AreDeclared};
 ghost use Rattle.scenario.specs.Canonical.{canonical_text};
-ghost use Rattle.scenario.specs.Reading.{FrontValue, front_of, scenario_of};
 ghost use Rattle.scenario.specs.Scenarios.{IsScenario, ScenarioValue};
+ghost use Rattle.scenario_reader.specs.Reading.{FrontValue, front_of, scenario_of};
 ghost use Rattle.scenario_laws.specs.Same.{IsSame};
 ghost use Rattle.site_lines.specs.Lines.{lines_of};
 ghost use Rattle.site_map.specs.Valid.{IsValidSite};

@@ -2,8 +2,8 @@
 
 ghost use Rattle.std.specs.Prelude.{◌≡◌, codes, Ok};
 ghost use Rattle.scenario.specs.Canonical.{canonical_text};
-ghost use Rattle.scenario.specs.Reading.{scenario_of};
-ghost use Rattle.scenario.specs.Tables.{mapped};
+ghost use Rattle.scenario_reader.specs.Reading.{scenario_of};
+ghost use Rattle.scenario_reader.specs.Tables.{mapped};
 
 /// An area that is named before a crossing is printed behind it, and the rest of a crossing as its
 /// last flow. What is printed is printed again when it is read.

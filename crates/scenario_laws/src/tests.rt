@@ -1,8 +1,8 @@
 // A scenario that was read from a text in another order, printed, and read again.
 use crate::values::scenario_reads_back;
 use scenario::print::print_scenario;
-use scenario::read::read_scenario;
 use scenario::scenario::Scenario;
+use scenario_reader::read::read_scenario;
 use std::alloc::Global;
 use std::test::Fail;
 

@@ -1,6 +1,6 @@
 use Rattle.std.proofs.Common.{arith}
-use Rattle.scenario.specs.Readers.{front_value}
-use Rattle.scenario.proofs.FrontSizes.{front_within}
+use Rattle.scenario_reader.specs.Readers.{front_value}
+use Rattle.scenario_reader.proofs.FrontSizes.{front_within}
 use Rattle.fleet_replay.specs.declared.refused.ReplayFault.TheVariants.{Line}
 use Rattle.fleet_replay.specs.declared.refused.TextRefused.TheVariants.{Fault}
 use Rattle.fleet_replay.proofs.Stops.{handed_on}

@@ -1,6 +1,6 @@
 use Rattle.std.proofs.Common.{arith}
-use Rattle.scenario.proofs.FrontSizes.{front_within}
-use Rattle.scenario.specs.Readers.{front_value}
+use Rattle.scenario_reader.proofs.FrontSizes.{front_within}
+use Rattle.scenario_reader.specs.Readers.{front_value}
 use Rattle.fleet_script.proofs.reading.read_script.Goals as goal
 
 pub overflow_add-front : goal.overflow_add-front

@@ -1,12 +1,10 @@
-use Rattle.std.proofs.Common.{Err, ◌≡◌, ◌<◌, ◌+◌, List, [], ◌∷◌, length, get_or, ap, sym, ◌∙◌, subst, arith, rules}
+use Rattle.std.proofs.Common.{◌≡◌, ◌<◌, List, [], ◌∷◌, length, get_or, ap, sym, ◌∙◌, subst, arith, rules}
 use Rattle.std.proofs.lemmas.List.{take_all}
 use Rattle.coordinator.specs.Books.{Book, with_entries}
 use Rattle.fleet_base.specs.declared.entries.Entry.{Entry}
 use Rattle.fleet_model.specs.States.{start_state}
 use Rattle.site_map.specs.Claims.{site_of}
 use Rattle.fleet_model.specs.Journals.{IsJournal}
-use Rattle.journal_replay.specs.Taken.{IsTaken}
-use Rattle.journal_replay.proofs.Counts.{entries_few}
 use Rattle.journal_replay.proofs.Standing.{book_of, kept_on, more, refused_here, stands_more}
 use Rattle.journal_replay.proofs.replay.replay.Goals as goal
 

@@ -1,6 +1,6 @@
 use Rattle.std.proofs.Common.{refl}
 use Rattle.fleet_model.specs.Sites.{footprint_of, in_conflict, links_from}
-use Rattle.scenario.specs.Reading.{front_of}
+use Rattle.scenario_reader.specs.Reading.{front_of}
 use Rattle.scenario_grammar.proofs.Fronts.{sound}
 use Rattle.scenario_grammar.proofs.samples.a_front_of_the_grammar.Goals as goal
 

@@ -1,6 +1,6 @@
 use Rattle.std.proofs.Common.{refl}
 use Rattle.fleet_model.specs.Sites.{footprint_of, in_conflict, links_from}
-use Rattle.scenario.specs.Reading.{scenario_of}
+use Rattle.scenario_reader.specs.Reading.{scenario_of}
 use Rattle.scenario_grammar.proofs.Texts.{sound}
 use Rattle.scenario_grammar.proofs.samples.a_text_of_the_grammar.Goals as goal
 

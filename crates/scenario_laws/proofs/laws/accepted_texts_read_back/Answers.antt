@@ -1,4 +1,4 @@
-use Rattle.scenario.proofs.Accepted.{accepted}
+use Rattle.scenario_reader.proofs.Accepted.{accepted}
 use Rattle.scenario_laws.proofs.AcceptedTexts.{accepted_valid}
 use Rattle.scenario_laws.proofs.Ends.{accepted_declared}
 use Rattle.scenario_laws.proofs.Whole.{read_again, reads_back, same_again}

@@ -2,7 +2,7 @@ use Rattle.std.proofs.Common.{refl}
 use Rattle.std.specs.Fmt.{digits}
 use Rattle.fleet_model.specs.Sites.{footprint_of, in_conflict, links_from}
 use Rattle.scenario.specs.Canonical.{canonical_text}
-use Rattle.scenario.specs.Reading.{scenario_of}
+use Rattle.scenario_reader.specs.Reading.{scenario_of}
 use Rattle.scenario_laws.proofs.samples.area_before_crossing.Goals as goal
 
 pub returns-clause-printed : goal.returns-clause-printed

@@ -1,0 +1,13 @@
+pub mod Accepted
+pub mod Fines
+pub mod Fronts
+pub mod FrontSizes
+pub mod Lanes
+pub mod Links
+pub mod Loops
+pub mod Naming
+pub mod Reached
+pub mod Repeats
+pub mod Sound
+pub mod Steps
+pub mod Tables

@@ -1,0 +1,9 @@
+pub mod Tables
+pub mod States
+pub mod SiteLines
+pub mod FleetLines
+pub mod MissionLines
+pub mod Keywords
+pub mod Reading
+pub mod Kept
+pub mod Readers
