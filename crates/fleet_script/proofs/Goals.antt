@@ -1,19 +1,10 @@
 -- The goals of commands, and sets of cells.
-use Rattle.std.proofs.Common.{◌≡◌, ℕ, ◌+◌, ◌<◌, Bool, true, false, ◌||◌, ◌==◌, List, [], ◌∷◌, length, take, get_or, All, sym, ap, ◌∙◌, refl, arith}
-use Rattle.std.proofs.lemmas.List.{take_more}
-use Rattle.std.proofs.lemmas.List.Folds.{list_any-append}
-use Rattle.std.specs.Cmp.{nat_cmp_total, unsigned_tied}
-use Rattle.std.specs.FinSet.{FinSet, contains, contains-insert, insert}
-use Rattle.std.specs.Ordering.{nat_cmp}
-use Rattle.fleet_model.specs.Lists.{has_cell}
-use Rattle.fleet_base.specs.declared.numbers.CellNo.{CellNo}
+use Rattle.std.proofs.Common.{ℕ, List, get_or, All, arith}
 use Rattle.fleet_commands.specs.Commands.{IsDeclared, IsDeclaredRequest}
 use Rattle.fleet_commands.specs.declared.command.Command.{Command}
 use Rattle.fleet_commands.specs.declared.command.Request.{Request}
 use Rattle.fleet_commands.specs.declared.command.Request.TheVariants as request
-use Rattle.fleet_model.proofs.Tables.{same_test}
 use Rattle.fleet_names.specs.Names.{Named}
-use Rattle.route_plan.specs.Labels.{has}
 use Rattle.scenario.specs.Scenarios.{NamesAll}
 use Rattle.site_map.specs.Built.{BuiltSite}
 use Rattle.site_map.specs.declared.goal.Goal.TheVariants as goal
