@@ -78,7 +78,8 @@ fn a_journal_is_read_line_by_line(rt: HostRuntime) -> Result<(), Fail> {
     }));
     assert_eq!(rt; read_rest(rt.alloc(), text, &names, place), bad);
     let first = read_entry(rt.alloc(), text, &names, &mut place).map_err(|_| "entry")?;
-    assert!(rt; matches!(first, Some(entry) if entry.robot == RobotNo(0)));
+    let robot = first.map(|entry| entry.robot);
+    assert_eq!(rt; robot, Some(RobotNo(0)));
     let behind = Place { used: 24, lines: 2 };
     assert_eq!(rt; place, behind);
     let second = read_entry(rt.alloc(), text, &names, &mut place).map(|_| ());
