@@ -15,7 +15,6 @@ use event_graph::graph::EventGraph;
 use fleet_base::claims::Claims;
 use fleet_base::numbers::{CellNo, ClaimGroup, ClaimNo, EventNo, RobotNo};
 use fleet_base::path::NoMemory;
-use merge_op::blockers::keeps;
 use robot_tables::tables::RobotTables;
 use site_map::site::Site;
 use std::alloc::Global;
@@ -59,7 +58,7 @@ fn first_kept(site: &Site, one: CellNo, other: CellNo) -> Option<ClaimNo>
 {
     let footprint = site.footprint(one);
     for claim in footprint.list() {
-        if keeps(site, other, *claim) {
+        if site.is_kept_from(*claim, other) {
             return Some(*claim);
         }
     }

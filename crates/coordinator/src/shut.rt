@@ -5,8 +5,8 @@ ghost use Rattle.std.specs.FinSet as set;
 ghost use Rattle.std.specs.List.{list_any};
 ghost use Rattle.fleet_base.specs.declared.numbers.CellNo.{CellNo};
 ghost use Rattle.fleet_base.specs.declared.numbers.ClaimNo.{ClaimNo};
-ghost use Rattle.fleet_model.specs.Sites.{in_conflict, is_kept_from};
-ghost use Rattle.site_map.specs.Claims.{claim_total, site_of};
+ghost use Rattle.fleet_model.specs.Sites.{is_kept_from};
+ghost use Rattle.site_map.specs.Claims.{site_of};
 ghost use Rattle.coordinator.specs.Replans.{is_kept_from_other, is_shut_by};
 
 use fleet_base::claim_set::ClaimSet;
@@ -56,24 +56,10 @@ fn put_kept(kept: &mut ClaimSet, site: &Site, cell: CellNo)
     let footprint = site.footprint(cell);
     for number in 0..site.claim_count() {
         let claim = ClaimNo(number);
-        if conflicts(site, claim, footprint.list()) {
+        if site.conflicts_with(claim, footprint.list()) {
             kept.put(claim);
         }
     }
-}
-
-// Whether the claim conflicts with one of these.
-fn conflicts(site: &Site, claim: ClaimNo, others: &[ClaimNo]) -> bool
-    requires claim { claim.0 < claim_total site.now }
-    requires others { All (λ d. d.0 < claim_total site.now) others.now }
-    ensures { result ≡ list_any (λ d. in_conflict (site_of site.now).groups claim d) others.now }
-{
-    for other in others {
-        if site.conflict(claim, *other) {
-            return true;
-        }
-    }
-    false
 }
 
 // Whether one of these claims is in the set.

@@ -103,7 +103,7 @@ module _ {names : Named} {text : List ℕ} {site : BuiltSite} {starts : List Cel
     here = ap state_of stands.book_is
 
     -- an entry that is given is one more
-    pub stands_on : {after : Book} → IsReplayed entry book after (Ok tt) → Stands names text site starts after new
+    pub stands_on : {after : Book} → IsReplayed entry book (Ok after) → Stands names text site starts after new
     stands_on taken = subst (λ b. Stands names text site starts b new) (sym taken.1) (record {
       book_is = ap (λ b. with_entries b (entry ∷ [])) stands.book_is;
       legal = given_more (opening names text site starts) book.journal entry stands.legal (subst (λ s. IsGiven s entry) here taken.0);
@@ -125,13 +125,13 @@ module _ {names : Named} {text : List ℕ} {site : BuiltSite} {starts : List Cel
         }
 
     -- and named, where the rest has no bad line
-    pub entry_fails : (after : Book) (cause : ReplayRefused) → IsReplayed entry book after (Err cause) → ReadsOn names text site starts new (Ok tt) → Fails (of_replay cause) due
-    entry_fails after (replaying.Differs n) taken on =
+    pub entry_fails : (cause : ReplayRefused) → IsReplayed entry book (Err cause) → ReadsOn names text site starts new (Ok tt) → Fails (of_replay cause) due
+    entry_fails (replaying.Differs n) taken on =
         let rest = on above more_lines in
         let found : journal_of names text ≡ Ok (front_to (above ++ rest.0) rest.1) = sym stands.rest ∙ is ∙ rest.2 in
         ap (run_of (opening names text site starts)) found ∙ ap (λ o. unless_differs o (front_to (above ++ rest.0) rest.1)) (one_differs (opening names text site starts) (above ++ rest.0) n (differs_first rest.0 n taken.0 taken.1))
-    entry_fails after (replaying.New cause) taken on = tt
-    entry_fails after replaying.NoMemory taken on = tt
+    entry_fails (replaying.New cause) taken on = tt
+    entry_fails replaying.NoMemory taken on = tt
 
     -- a bad line among the rest goes before it
     pub rest_fails : (cause : ReadJournalRefused) → ReadsOn names text site starts new (Err cause) → Fails (of_journal cause) due

@@ -92,10 +92,13 @@ fn replay_journal(
         return Err(TextRefused::NoMemory);
     };
     while let Some(entry) = read_entry(alloc, text, names, &mut end)? {
-        if let Err(refused) = replay_entry(&mut fleet, &entry) {
-            read_rest(alloc, text, names, end)?;
-            return Err(TextRefused::from(refused));
-        }
+        fleet = match replay_entry(fleet, &entry) {
+            Ok(fleet) => fleet,
+            Err(refused) => {
+                read_rest(alloc, text, names, end)?;
+                return Err(TextRefused::from(refused));
+            }
+        };
     }
     Ok(Run { fleet, end })
 }

@@ -57,10 +57,10 @@ module _ (site : BuiltSite) (starts : List CellNo) (cap : ℕ) (entries : List E
       length_first = simp length-take (omega (arith, within))
 
   -- so a refusal that names an entry names the first that differs
-  pub refused_here : (book new : Book) (cause : ReplayRefused) → book ≡ book_of site starts cap (take i entries) → IsJournal opening (take i entries) → IsReplayed entry book new (Err cause) → OnDiffers (DiffersAt opening entries) cause
-  refused_here book new (New cause) is replayable replayed = tt
-  refused_here book new (Differs number) is replayable replayed = differs_here book number is replayable replayed.0 replayed.1
-  refused_here book new NoMemory is replayable replayed = tt
+  pub refused_here : (book : Book) (cause : ReplayRefused) → book ≡ book_of site starts cap (take i entries) → IsJournal opening (take i entries) → IsReplayed entry book (Err cause) → OnDiffers (DiffersAt opening entries) cause
+  refused_here book (New cause) is replayable replayed = tt
+  refused_here book (Differs number) is replayable replayed = differs_here book number is replayable replayed.0 replayed.1
+  refused_here book NoMemory is replayable replayed = tt
 
 -- what is handed on keeps what holds of it
 pub kept_on : {A : Type 0} (P : ReplayRefused → Type 0) (result : Result A ReplayRefused) (cause : ReplayRefused) → IsErrAnd result (λ e. e ≡ cause) → P cause → IfErr result P

@@ -54,8 +54,8 @@ IsTaken entry old new (Err Differs) = IsGiven (state_of old) entry → ⊥
 IsTaken entry old new (Err NoMemory) = Unit {0}
 
 -- The same of one entry of a journal: one that differs is numbered behind those that stand in the book.
-abbrev pub IsReplayed : Entry → Book → Book → Result (Unit {0}) ReplayRefused → Type 0
-IsReplayed entry old new (Ok done) = IsGiven (state_of old) entry × (new ≡ with_entries old (entry ∷ []))
-IsReplayed entry old new (Err (replaying.Differs n)) = (IsGiven (state_of old) entry → ⊥) × (n ≡ length old.journal + 1)
-IsReplayed entry old new (Err (replaying.New cause)) = ⊥
-IsReplayed entry old new (Err replaying.NoMemory) = Unit {0}
+abbrev pub IsReplayed : Entry → Book → Result Book ReplayRefused → Type 0
+IsReplayed entry book (Ok new) = IsGiven (state_of book) entry × (new ≡ with_entries book (entry ∷ []))
+IsReplayed entry book (Err (replaying.Differs n)) = (IsGiven (state_of book) entry → ⊥) × (n ≡ length book.journal + 1)
+IsReplayed entry book (Err (replaying.New cause)) = ⊥
+IsReplayed entry book (Err replaying.NoMemory) = Unit {0}

@@ -45,22 +45,22 @@ pub fn replay(
 {
     let mut fleet = Coordinator::new(alloc, site, starts, cap)?;
     for entry in entries {
-        replay_entry(&mut fleet, entry)?;
+        fleet = replay_entry(fleet, entry)?;
     }
     Ok(fleet)
 }
 
-/// Makes the call that an entry records, and compares its answer with the entry, which may hold any
-/// numbers. On a refusal the coordinator is of no further use.
+/// The coordinator once the call that an entry records was made, and had just this entry's answer.
+/// The entry may hold any numbers. On a refusal the coordinator is given up.
 ///
 /// The coordinator's cap is at most 1,000,000.
-pub fn replay_entry(fleet: &mut Coordinator, entry: &Entry) -> Result<(), ReplayRefused>
-    requires { fleet.old.cap ≤ MAX_CAP }
-    ensures { IsReplayed entry.now fleet.old fleet.new result }
+pub fn replay_entry(mut fleet: Coordinator, entry: &Entry) -> Result<Coordinator, ReplayRefused>
+    requires { fleet.cap ≤ MAX_CAP }
+    ensures { IsReplayed entry.now fleet result }
 {
     let before = fleet.journal().len() as u32;
-    match take_entry(fleet, entry) {
-        Ok(()) => Ok(()),
+    match take_entry(&mut fleet, entry) {
+        Ok(()) => Ok(fleet),
         Err(EntryRefused::Differs) => Err(ReplayRefused::Differs { entry: before + 1 }),
         Err(EntryRefused::NoMemory) => Err(ReplayRefused::NoMemory),
     }

@@ -136,14 +136,14 @@ fn entries_are_replayed_one_by_one(rt: HostRuntime) -> Result<(), Fail> {
     let (alloc, starts) = (rt.alloc(), [CellNo(0), CellNo(2)]);
     let site = junction(alloc)?;
     assert_eq!(rt; site.cell_count(), 4);
-    let mut fleet = Coordinator::new(alloc, site, &starts, 100).map_err(|_| "new")?;
+    let fleet = Coordinator::new(alloc, site, &starts, 100).map_err(|_| "new")?;
     let merged = Entry {
         robot: RobotNo(0),
         act: act(alloc, Told::Merged(0, 1, 1))?,
     };
-    assert_eq!(rt; replay_entry(&mut fleet, &merged), Ok(()));
+    let fleet = replay_entry(fleet, &merged).map_err(|_| "differs")?;
     assert_eq!(rt; fleet.journal().len(), 1);
-    let again = replay_entry(&mut fleet, &merged);
+    let again = replay_entry(fleet, &merged).map(|fleet| fleet.journal().len());
     assert_eq!(rt; again, Err(ReplayRefused::Differs { entry: 2 }));
     Ok(())
 }

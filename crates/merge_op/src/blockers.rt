@@ -5,7 +5,6 @@ ghost use Rattle.std.specs.FinSet as set;
 ghost use Rattle.std.specs.Option.{option_map};
 ghost use Rattle.fleet_base.specs.declared.numbers.CellNo.{CellNo};
 ghost use Rattle.fleet_base.specs.declared.numbers.ClaimNo.{ClaimNo};
-ghost use Rattle.fleet_model.specs.Sites.{is_kept_from};
 ghost use Rattle.fleet_model.specs.Deferral.{least_blocker};
 ghost use Rattle.site_map.specs.Claims.{claim_total, site_of};
 ghost use Rattle.merge_op.specs.Blocked.{pair_of, IsSetOf, IsLeastKeeper, HasGroupsOf, HasTaken};
@@ -96,24 +95,9 @@ fn least_keeper(site: &Site, ends: &[CellNo], robot: RobotNo, claim: ClaimNo) ->
         (option_map (λ by. by.0) result) }
 {
     for (place, end) in ends.iter().enumerate() {
-        if place != robot.0 as usize && keeps(site, *end, claim) {
+        if place != robot.0 as usize && site.is_kept_from(claim, *end) {
             return Some(RobotNo(place as u32));
         }
     }
     None
-}
-
-/// Whether the claim conflicts with one of the cell's. It takes no memory.
-pub fn keeps(site: &Site, cell: CellNo, claim: ClaimNo) -> bool
-    requires cell { cell.0 < site.now.cells }
-    requires claim { claim.0 < claim_total site.now }
-    ensures { result ≡ is_kept_from (site_of site.now) claim cell }
-{
-    let footprint = site.footprint(cell);
-    for kept in footprint.list() {
-        if site.conflict(claim, *kept) {
-            return true;
-        }
-    }
-    false
 }

@@ -1,9 +1,8 @@
 // What the lines of robots and missions declare.
 ghost use Rattle.std.specs.Prelude.{◌≡◌, ◌<◌, ◌≤◌, true, [], length, All, IfOk, IfErr, OnOk};
 ghost use Rattle.std.specs.List.{list_any};
-ghost use Rattle.fleet_model.specs.Sites.{in_conflict};
 ghost use Rattle.fleet_names.specs.Names.{is_name};
-ghost use Rattle.site_map.specs.Claims.{claim_total, site_of};
+ghost use Rattle.site_map.specs.Claims.{site_of};
 ghost use Rattle.scenario.specs.Scenarios.{do_conflict};
 ghost use Rattle.scenario_reader.specs.FleetLines.{end_line, mission_line, robot_line, robot_rows};
 ghost use Rattle.scenario_reader.specs.Kept.{IsSound};
@@ -19,7 +18,7 @@ use crate::named::{add_name, cell_named, check_free, robot_named};
 use crate::stop::Stop;
 use crate::words::{Words, none, one, two};
 use fleet_base::limits::MAX_ROBOTS;
-use fleet_base::numbers::{CellNo, ClaimNo};
+use fleet_base::numbers::CellNo;
 use fleet_base::path::{NoMemory, Path};
 use fleet_names::names::Names;
 use fleet_names::thing::{Thing, is_name};
@@ -187,21 +186,7 @@ fn do_conflict(site: &Site, one: CellNo, other: CellNo) -> bool
     let others = site.footprint(other);
     let own = site.footprint(one);
     for claim in own.list() {
-        if is_kept_from(site, *claim, others.list()) {
-            return true;
-        }
-    }
-    false
-}
-
-// Whether the claim conflicts with one of these.
-fn is_kept_from(site: &Site, claim: ClaimNo, others: &[ClaimNo]) -> bool
-    requires claim { claim.0 < claim_total site.now }
-    requires others { All (λ d. d.0 < claim_total site.now) others.now }
-    ensures { result ≡ list_any (λ d. in_conflict (site_of site.now).groups claim d) others.now }
-{
-    for other in others {
-        if site.conflict(claim, *other) {
+        if site.conflicts_with(*claim, others.list()) {
             return true;
         }
     }

@@ -1,11 +1,12 @@
 //! A site.
 
 ghost use Rattle.std.specs.Prelude.{◌≡◌, ◌≢◌, ◌<◌, ◌≤◌, length, Some, slice_get, All, AllPairs, IfOk};
+ghost use Rattle.std.specs.List.{list_any};
 ghost use Rattle.std.specs.Option.{option_map};
 ghost use Rattle.fleet_base.specs.Lists.{RiseFrom};
 ghost use Rattle.fleet_base.specs.declared.limits.TheConstants.{MAX_CLAIMS, MAX_COST};
 ghost use Rattle.fleet_model.specs.Tables.{IsCounted};
-ghost use Rattle.fleet_model.specs.Sites.{exclude, footprint_of, in_conflict, link_cost, links_from, IsSite};
+ghost use Rattle.fleet_model.specs.Sites.{exclude, footprint_of, in_conflict, is_kept_from, link_cost, links_from, IsSite};
 ghost use Rattle.site_map.specs.Built.{area_at, crossing_at, link_total};
 ghost use Rattle.site_map.specs.Cells.{CellsRise, LinksRise};
 ghost use Rattle.site_map.specs.Claims.{claim_total, group_at, names_of, site_of};
@@ -170,6 +171,30 @@ impl Site {
         ensures symmetric { result ≡ in_conflict (site_of self.now).groups other one }
     {
         exclude(self.group(one), self.group(other), one.0 == other.0)
+    }
+
+    /// Whether the claim conflicts with one of these.
+    pub fn conflicts_with(&self, claim: ClaimNo, others: &[ClaimNo]) -> bool
+        requires claim { claim.0 < claim_total self.now }
+        requires others { All (λ d. d.0 < claim_total self.now) others.now }
+        ensures { result ≡ list_any (λ d. in_conflict (site_of self.now).groups claim d) others.now }
+    {
+        for other in others {
+            if self.conflict(claim, *other) {
+                return true;
+            }
+        }
+        false
+    }
+
+    /// Whether the claim conflicts with one of the cell's. It takes no memory.
+    pub fn is_kept_from(&self, claim: ClaimNo, cell: CellNo) -> bool
+        requires claim { claim.0 < claim_total self.now }
+        requires cell { cell.0 < self.now.cells }
+        ensures { result ≡ is_kept_from (site_of self.now) claim cell }
+    {
+        let footprint = self.footprint(cell);
+        self.conflicts_with(claim, footprint.list())
     }
 
     /// The group of a claim, and whether it is alone in it.

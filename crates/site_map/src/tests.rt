@@ -110,6 +110,10 @@ fn claims_are_grouped_by_what_they_take(rt: HostRuntime) {
     assert!(rt; site.conflict(ClaimNo(8), ClaimNo(9)));
     assert!(rt; !site.conflict(ClaimNo(8), ClaimNo(8)));
     assert!(rt; !site.conflict(ClaimNo(7), ClaimNo(8)));
+    assert!(rt; site.conflicts_with(ClaimNo(4), &[ClaimNo(5), ClaimNo(4)]));
+    assert!(rt; !site.conflicts_with(ClaimNo(4), &[ClaimNo(5), ClaimNo(6)]));
+    assert!(rt; site.is_kept_from(ClaimNo(8), CellNo(3)));
+    assert!(rt; !site.is_kept_from(ClaimNo(8), CellNo(0)));
 }
 
 // The name of a crossing's claim.

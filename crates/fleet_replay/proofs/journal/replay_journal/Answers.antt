@@ -3,38 +3,38 @@ use Rattle.fleet_replay.proofs.Runs.{entry_fails, rest_fails, run_ends, stands_o
 use Rattle.fleet_replay.proofs.Stops.{handed_on}
 use Rattle.fleet_replay.proofs.journal.replay_journal.Goals as goal
 
-pub returns-in_err-read_rest-clause-is : goal.returns-in_err-read_rest-clause-is
-returns-in_err-read_rest-clause-is c =
-    let cause = c.in_err-read_rest.field-0.0 in
-    handed_on _ _ _ (of_journal cause) c.from_residual-in_err-read_rest.ensures.1
-    (rest_fails c.read_entry.new.place c.loop-fleet.invariant.stands c.in-Some.is c.in_ok-entry.ensures.is c.in_ok-entry.ensures.moved.1 cause c.in_err-read_rest.ensures.is)
+pub returns-in_err-read_rest-in-Err-clause-is : goal.returns-in_err-read_rest-in-Err-clause-is
+returns-in_err-read_rest-in-Err-clause-is c =
+    let cause = c.in_err-read_rest-in-Err.field-0.0 in
+    handed_on _ _ _ (of_journal cause) c.from_residual-in_err-read_rest-in-Err.ensures.1
+    (rest_fails c.read_entry.new.place c.loop-fleet.invariant.stands c.in-Some.is c.in_ok-entry.ensures.is c.in_ok-entry.ensures.moved.1 cause c.in_err-read_rest-in-Err.ensures.is)
 
 pub returns-in-Err-clause-is : goal.returns-in-Err-clause-is
 returns-in-Err-clause-is c =
     rw c.from.ensures
-    (entry_fails c.read_entry.new.place c.loop-fleet.invariant.stands c.in-Some.is c.in_ok-entry.ensures.is c.in_ok-entry.ensures.moved.1 c.replay_entry.new.fleet c.in-Err.refused c.in-Err.ensures c.in_ok-read_rest.ensures.is)
+    (entry_fails c.read_entry.new.place c.loop-fleet.invariant.stands c.in-Some.is c.in_ok-entry.ensures.is c.in_ok-entry.ensures.moved.1 c.in-Err.refused c.in-Err.ensures c.in_ok-read_rest-in-Err.ensures.is)
 
-pub loop-fleet-preserved-in_default-replay_entry : goal.loop-fleet-preserved-in_default-replay_entry
-loop-fleet-preserved-in_default-replay_entry c = record {
-  stands = stands_on c.read_entry.new.place c.loop-fleet.invariant.stands c.in-Some.is c.in_ok-entry.ensures.is c.in_ok-entry.ensures.moved.1 c.in_default-replay_entry.ensures;
+pub loop-fleet-preserved-in-Ok-replay_entry : goal.loop-fleet-preserved-in-Ok-replay_entry
+loop-fleet-preserved-in-Ok-replay_entry c = record {
+  stands = stands_on c.read_entry.new.place c.loop-fleet.invariant.stands c.in-Some.is c.in_ok-entry.ensures.is c.in_ok-entry.ensures.moved.1 c.in-Ok-replay_entry.ensures;
   within = c.read_entry.ensures.within;
 }
 
-pub loop-fleet-preserved-in_default-replay_entry-2 : goal.loop-fleet-preserved-in_default-replay_entry-2
-loop-fleet-preserved-in_default-replay_entry-2 c = record {
-  stands = stands_on c.read_entry.new.place c.loop-fleet.invariant.stands c.in-Some.is c.in_ok-entry.ensures.is c.in_ok-entry.ensures.moved.1 c.in_default-replay_entry.ensures;
+pub loop-fleet-preserved-in-Ok-replay_entry-2 : goal.loop-fleet-preserved-in-Ok-replay_entry-2
+loop-fleet-preserved-in-Ok-replay_entry-2 c = record {
+  stands = stands_on c.read_entry.new.place c.loop-fleet.invariant.stands c.in-Some.is c.in_ok-entry.ensures.is c.in_ok-entry.ensures.moved.1 c.in-Ok-replay_entry.ensures;
   within = c.read_entry.ensures.within;
 }
 
-pub loop-fleet-preserved-in_default-replay_entry-3 : goal.loop-fleet-preserved-in_default-replay_entry-3
-loop-fleet-preserved-in_default-replay_entry-3 c = record {
-  stands = stands_on c.read_entry.new.place c.loop-fleet.invariant.stands c.in-Some.is c.in_ok-entry.ensures.is c.in_ok-entry.ensures.moved.1 c.in_default-replay_entry.ensures;
+pub loop-fleet-preserved-in-Ok-replay_entry-3 : goal.loop-fleet-preserved-in-Ok-replay_entry-3
+loop-fleet-preserved-in-Ok-replay_entry-3 c = record {
+  stands = stands_on c.read_entry.new.place c.loop-fleet.invariant.stands c.in-Some.is c.in_ok-entry.ensures.is c.in_ok-entry.ensures.moved.1 c.in-Ok-replay_entry.ensures;
   within = c.read_entry.ensures.within;
 }
 
 pub loop-fleet-preserved : goal.loop-fleet-preserved
 loop-fleet-preserved c = record {
-  stands = stands_on c.read_entry.new.place c.loop-fleet.invariant.stands c.in-Some.is c.in_ok-entry.ensures.is c.in_ok-entry.ensures.moved.1 c.in_default-replay_entry.ensures;
+  stands = stands_on c.read_entry.new.place c.loop-fleet.invariant.stands c.in-Some.is c.in_ok-entry.ensures.is c.in_ok-entry.ensures.moved.1 c.in-Ok-replay_entry.ensures;
   within = c.read_entry.ensures.within;
 }
 

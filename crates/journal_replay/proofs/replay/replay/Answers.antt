@@ -19,7 +19,7 @@ loop-entry-preserved c =
     let here : get_or entries i entry ≡ entry = search rules in
     let within : i < length entries = omega (arith, c.loop-entry-test.true) in
     let book : Book = c.loop-entry.fleet in
-    let taken = c.in_ok-replay_entry.ensures in
+    let taken = c.in_ok-fleet-2.ensures in
     record {
       book =
           taken.1
@@ -28,13 +28,13 @@ loop-entry-preserved c =
       replayable = stands_more c.args.site c.args.starts.now c.args.cap entries i entry within here book c.loop-entry.invariant.book c.loop-entry.invariant.replayable taken.0;
     }
 
-pub returns-in_err-replay_entry-clause-differs : goal.returns-in_err-replay_entry-clause-differs
-returns-in_err-replay_entry-clause-differs c =
+pub returns-in_err-fleet-2-clause-differs : goal.returns-in_err-fleet-2-clause-differs
+returns-in_err-fleet-2-clause-differs c =
     let entries : List Entry = c.args.entries.now in
     let i = c.loop-entry.entry-index in
     let entry : Entry = c.entry-item.result in
     let here : get_or entries i entry ≡ entry = search rules in
     let within : i < length entries = omega (arith, c.loop-entry-test.true) in
-    let cause = c.in_err-replay_entry.field-0.0 in
-    kept_on _ _ cause c.from_residual-in_err-replay_entry.ensures.1
-    (refused_here c.args.site c.args.starts.now c.args.cap entries i entry within here c.loop-entry.fleet c.replay_entry.new.fleet cause c.loop-entry.invariant.book c.loop-entry.invariant.replayable c.in_err-replay_entry.ensures)
+    let cause = c.in_err-fleet-2.field-0.0 in
+    kept_on _ _ cause c.from_residual-in_err-fleet-2.ensures.1
+    (refused_here c.args.site c.args.starts.now c.args.cap entries i entry within here c.loop-entry.fleet cause c.loop-entry.invariant.book c.loop-entry.invariant.replayable c.in_err-fleet-2.ensures)
