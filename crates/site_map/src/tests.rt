@@ -101,6 +101,7 @@ fn claims_are_grouped_by_what_they_take(rt: HostRuntime) {
     let mut builder = SiteBuilder::new(rt.alloc());
     assert_eq!(rt; yard(&rt, &mut builder), Ok(()));
     let site = builder.finish();
+    assert_eq!(rt; site.cell_count(), 7);
     assert_eq!(rt; site.claim_count(), 11);
     assert_eq!(rt; site.group(ClaimNo(4)), group(4, true));
     assert_eq!(rt; site.group(ClaimNo(7)), group(7, true));
