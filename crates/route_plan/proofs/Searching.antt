@@ -210,6 +210,13 @@ module _ (site : Site) (goal avoid : CellNo → Bool) (labels : List (Option ℕ
   }
 
   module _ (at : CellNo) (label : ℕ) (open_cells : List (Reverse (ℕ × ℕ))) (h : IsSettled site goal avoid labels (open_at label at ∷ open_cells)) where
+    -- an open cell is the first with its label, or one of the others
+    open_cases : (b : CellNo) (d : ℕ) → Contains (open_at label at ∷ open_cells) (open_at d b) → ((b ≡ at) × (d ≡ label)) ⊎ Contains open_cells (open_at d b)
+    open_cases b d o = elim (member_cases (open_at label at) (open_at d b) open_cells o) [
+      | inl e ↦ inl (same_cell b at (ap (λ (z : Reverse (ℕ × ℕ)). z.0.1) e), ap (λ (z : Reverse (ℕ × ℕ)). z.0.0) e)
+      | inr m ↦ inr m
+    ]
+
     -- a cell that stood open with another label than it has can be left out
     pub search_stale : (label_at labels at ≡ Some label → ⊥) → IsSettled site goal avoid labels open_cells
     search_stale stale = record {
@@ -219,12 +226,8 @@ module _ (site : Site) (goal avoid : CellNo → Bool) (labels : List (Option ℕ
       goals = h.goals;
       within = λ a b c d k free g. elim (h.within a b c d k free g) [
         | inl w ↦ inl w
-        | inr (inl o) ↦ elim (member_cases (open_at label at) (open_at d b) open_cells o) [
-          | inl e ↦
-              let num : b.0 ≡ at.0 = ap (λ (z : Reverse (ℕ × ℕ)). z.0.1) e in
-              let same : d ≡ label = ap (λ (z : Reverse (ℕ × ℕ)). z.0.0) e in
-              let s : b ≡ at = same_cell b at num in
-              absurd (stale (ap (label_at labels) (sym s) ∙ g ∙ ap (λ n. Some n) same))
+        | inr (inl o) ↦ elim (open_cases b d o) [
+          | inl e ↦ absurd (stale (ap (label_at labels) (sym e.0) ∙ g ∙ ap (λ n. Some n) e.1))
           | inr m ↦ inr (inl m)
         ]
         | inr (inr l) ↦ absurd (no_member (entry a c) l.2)
@@ -242,12 +245,8 @@ module _ (site : Site) (goal avoid : CellNo → Bool) (labels : List (Option ℕ
       goals = h.goals;
       within = λ a b c d k free g. elim (h.within a b c d k free g) [
         | inl w ↦ inl w
-        | inr (inl o) ↦ elim (member_cases (open_at label at) (open_at d b) open_cells o) [
-          | inl e ↦
-              let num : b.0 ≡ at.0 = ap (λ (z : Reverse (ℕ × ℕ)). z.0.1) e in
-              let same : d ≡ label = ap (λ (z : Reverse (ℕ × ℕ)). z.0.0) e in
-              let s : b ≡ at = same_cell b at num in
-              inr (inr (s, same, subst (λ y. Contains (row_at rows y) (entry a c)) s (are.all a b c k)))
+        | inr (inl o) ↦ elim (open_cases b d o) [
+          | inl e ↦ inr (inr (e.0, e.1, subst (λ y. Contains (row_at rows y) (entry a c)) e.0 (are.all a b c k)))
           | inr m ↦ inr (inl m)
         ]
         | inr (inr l) ↦ absurd (no_member (entry a c) l.2)

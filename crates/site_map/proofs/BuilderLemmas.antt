@@ -1,7 +1,8 @@
 -- What each call of the builder leaves is kept as a site is.
-use Rattle.std.proofs.Common.{◌≡◌, ℕ, zero, suc, ◌+◌, ◌<◌, ◌≤◌, true, false, cond, not, ◌&&◌, ◌||◌, eqb, leb, ltb, inl, inr, List, [], ◌∷◌, ◌++◌, length, map, get_or, set, refl, sym, ap, subst, ◌∙◌, arith}
+use Rattle.std.proofs.Common.{◌≡◌, ℕ, zero, suc, ◌+◌, ◌<◌, ◌≤◌, true, false, cond, not, ◌&&◌, ◌||◌, eqb, leb, ltb, inl, inr, List, [], ◌∷◌, ◌++◌, length, map, get_or, set, Option, refl, sym, ap, subst, ◌∙◌, arith}
 use Rattle.std.proofs.Math.ListN.{get_or-append}
 use Rattle.std.specs.List.{list_any, All}
+use Rattle.std.specs.Option.{unwrap_or}
 use Rattle.std.specs.FinSet as set
 use Rattle.std.specs.Ordering.{nat_cmp}
 use Rattle.std.proofs.lemmas.Bool.{cases_Bool, cases_eq, cases_lt, ne_eqb, and_parts, not-true, or_from, or_parts, or_right, lt-leb, le-leb, lt-ltb, le-ltb}
@@ -19,10 +20,11 @@ use Rattle.site_map.specs.Cells.{with_one_more}
 use Rattle.site_map.specs.Crossings.{BuiltCrossing, claim_count_of, completed, crossing_claims, in_flow, IsFlow, with_line}
 use Rattle.site_map.specs.Built.{crossings_with, link_total, no_crossing}
 use Rattle.site_map.specs.Inside.{AreCells, AreLines, AreLinks, AreNumbered, entered, IsKept, marked, places_from, places_list}
-use Rattle.site_map.proofs.CellLemmas.{has_each, list_any_agree_in}
+use Rattle.site_map.proofs.CellLemmas.{has_each, list_any_agree_in, read_at}
 use Rattle.site_map.proofs.ClaimLemmas.{crossing_claims_front, crossing_claims_more, crossing_claims-append, crossing_claims-set, length-crossings}
 use Rattle.site_map.proofs.CrossingLemmas.{claims_step}
 use Rattle.site_map.proofs.LinkLemmas.{LinksRise-with_one_more, All-with_one_more, length-with_one_more}
+use Rattle.site_map.proofs.SiteLemmas.{flows_few}
 use Rattle.site_map.proofs.PlaceLemmas.{length-places, places_none, places_push, places_same, places_marked}
 
 -- what names cells of a site names some of a site with one cell more
@@ -329,3 +331,33 @@ module _ (links : List (List Link)) (count : ℕ) (places : List Places) (crossi
       let front = crossing_claims_front (map completed crossings) (k + 1) in
       let same = ap claim_count_of (get_or-map completed crossings k no_crossing no_crossing within) in
       omega (arith, more, front, same)
+
+  -- the number of a claim in a crossing, behind the cells and the claims of the crossings before, is small
+  pub claim_small : IsKept links count places crossings areas firsts owners → (k first flow : ℕ) (x : BuiltCrossing) (line : Option ℕ) → k < length crossings
+      → x ≡ get_or crossings k x → first ≡ get_or firsts k first → flow ≡ unwrap_or line (length x.flows)
+      → unwrap_or line (length (get_or crossings k no_crossing).flows) ≤ length (get_or crossings k no_crossing).flows → length links + first + flow ≤ 1536
+  claim_small kept k first flow x line within at first_at is line_within =
+      let flow_is = is ∙ ap (λ (y : BuiltCrossing). unwrap_or line (length y.flows)) (read_at crossings k x no_crossing within at) in
+      let few = flows_few (get_or crossings k no_crossing) (All-get_or (λ z. AreCells (length links) z.cells) crossings k no_crossing within kept.crossed).some in
+      let most = claim_count_within k within in
+      let same = length-map crossings completed in
+      let first_is = read_at firsts k first 0 (omega (arith, kept.numbered.firsts_are_all, same, within)) first_at in
+      let begun = kept.numbered.begun k (omega (arith, same, within)) in
+      let front = crossing_claims_front (map completed crossings) k in
+      omega (arith, line_within, flow_is, few, most, first_is, begun, front, kept.few_claims, kept.few_cells)
+
+  -- a crossing with a flow line more has a claim more at most, and all crossings have as many more
+  pub claims_with_line : IsKept links count places crossings areas firsts owners → (k : ℕ) (x : BuiltCrossing) (line : List CellNo) → k < length crossings → x ≡ get_or crossings k x
+      → (claim_count_of (completed x) ≤ length owners)
+      × (claim_count_of (completed (with_line x line)) ≤ claim_count_of (completed x) + 1)
+      × (length owners + claim_count_of (completed (with_line x line)) ≡ crossing_claims (map completed (set crossings k (with_line (get_or crossings k no_crossing) line))) + claim_count_of (completed x))
+  claims_with_line kept k x line within at =
+      let x_is = read_at crossings k x no_crossing within at in
+      let some = (All-get_or (λ z. AreCells (length links) z.cells) crossings k no_crossing within kept.crossed).some in
+      let most = claim_count_within k within in
+      let changed = claims_with_flow k (with_line (get_or crossings k no_crossing) line) within in
+      let before = ap (λ y. claim_count_of (completed y)) x_is in
+      let after = ap (λ y. claim_count_of (completed (with_line y line))) x_is in
+      let step = claims_step (get_or crossings k no_crossing) line some in
+      let all = kept.numbered.owners_are_all in
+      (omega (arith, most, before, all), omega (arith, step.1, before, after), omega (arith, before, after, changed, all))

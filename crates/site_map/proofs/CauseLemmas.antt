@@ -1,8 +1,13 @@
 -- Which cause of a refusal comes first.
-use Rattle.std.proofs.Common.{◌≡◌, Bool, true, false, not, ◌&&◌, ◌||◌, List, [], ◌∷◌, Option, Some, None, refl, ap, ◌∙◌}
+use Rattle.std.proofs.Common.{◌≡◌, ℕ, ◌<◌, Bool, true, false, not, ◌&&◌, ◌||◌, if◌then◌else◌, leb, List, [], ◌∷◌, length, Option, Some, None, refl, ap, ◌∙◌}
 use Rattle.std.specs.List.{list_any, list_all}
-use Rattle.std.proofs.lemmas.Bool.{true≢false, false≢true}
-use Rattle.fleet_model.specs.Lists.{when, first_some}
+use Rattle.std.proofs.lemmas.Bool.{true≢false, false≢true, lt-leb, not_from_true}
+use Rattle.fleet_base.specs.declared.numbers.CellNo.{CellNo}
+use Rattle.fleet_model.specs.Lists.{has_cell, when, first_some}
+use Rattle.site_map.specs.Built.{BuiltSite, crossing_at, with_flow}
+use Rattle.site_map.specs.Cells.{are_known, has_repeat}
+use Rattle.site_map.specs.Crossings.{in_flow}
+use Rattle.site_map.specs.Refusals.{flow_cause, has_too_many_claims}
 use Rattle.site_map.specs.declared.refused.BuildRefused.{BuildRefused}
 use Rattle.site_map.specs.declared.refused.BuildRefused.TheVariants.{UnknownCell, UnknownCrossing, Repeated, Full, TooManyCrossings, Foreign}
 
@@ -32,28 +37,14 @@ crossing_is_fine false false false false p q r s = refl
 abbrev pub flow_causes : Bool → Bool → Bool → Bool → Bool → Option BuildRefused
 flow_causes a b c d e = first_some (when a UnknownCell ∷ when b UnknownCrossing ∷ when c Repeated ∷ when d Full ∷ when e Foreign ∷ [])
 
-pub flow_is_full : (a b c d e : Bool) → a ≡ false → b ≡ false → c ≡ false → d ≡ true → flow_causes a b c d e ≡ Some Full
-flow_is_full true b c d e p q r s = absurd (true≢false p)
-flow_is_full false true c d e p q r s = absurd (true≢false q)
-flow_is_full false false true d e p q r s = absurd (true≢false r)
-flow_is_full false false false true e p q r s = refl
-flow_is_full false false false false e p q r s = absurd (false≢true s)
-
-pub flow_is_foreign : (a b c d e : Bool) → a ≡ false → b ≡ false → c ≡ false → d ≡ false → e ≡ true → flow_causes a b c d e ≡ Some Foreign
-flow_is_foreign true b c d e p q r s t = absurd (true≢false p)
-flow_is_foreign false true c d e p q r s t = absurd (true≢false q)
-flow_is_foreign false false true d e p q r s t = absurd (true≢false r)
-flow_is_foreign false false false true e p q r s t = absurd (true≢false s)
-flow_is_foreign false false false false true p q r s t = refl
-flow_is_foreign false false false false false p q r s t = absurd (false≢true t)
-
-pub flow_is_fine : (a b c d e : Bool) → a ≡ false → b ≡ false → c ≡ false → d ≡ false → e ≡ false → flow_causes a b c d e ≡ None
-flow_is_fine true b c d e p q r s t = absurd (true≢false p)
-flow_is_fine false true c d e p q r s t = absurd (true≢false q)
-flow_is_fine false false true d e p q r s t = absurd (true≢false r)
-flow_is_fine false false false true e p q r s t = absurd (true≢false s)
-flow_is_fine false false false false true p q r s t = absurd (true≢false t)
-flow_is_fine false false false false false p q r s t = refl
+-- the first cause of a flow line behind the tests that its cells are known, its crossing too, and none is repeated
+flow_is : (a b c d e full free : Bool) → a ≡ false → b ≡ false → c ≡ false → d ≡ full → e ≡ not free → flow_causes a b c d e ≡ (if full then Some Full else (if free then None else Some Foreign))
+flow_is a b c d e full free p q r s t = rw p (rw q (rw r (rw s (rw t (by_tests full free)))))
+  where
+    by_tests : (full free : Bool) → flow_causes false false false full (not free) ≡ (if full then Some Full else (if free then None else Some Foreign))
+    by_tests true free = refl
+    by_tests false true = refl
+    by_tests false false = refl
 
 -- a cell is foreign where it isn't free
 pub any_foreign : {A : Type 0} (has is_taken : A → Bool) (xs : List A) → list_any (λ x. not (has x) || is_taken x) xs ≡ not (list_all (λ x. has x && not (is_taken x)) xs)
@@ -64,6 +55,13 @@ any_foreign has is_taken (x ∷ xs) = ap (λ b. (not (has x) || is_taken x) || b
     one true true r = refl
     one true false r = refl
     one false t r = refl
+
+pub flow_cause_is : (s : BuiltSite) (k : ℕ) (cells : List CellNo) (full free : Bool) → are_known s.cells cells ≡ true → k < length s.crossings → has_repeat cells ≡ false → has_too_many_claims (with_flow s k cells) ≡ full
+    → list_all (λ d. has_cell (crossing_at s k).cells d && not (in_flow (crossing_at s k).flows d)) cells ≡ free → flow_cause s k cells ≡ (if full then Some Full else (if free then None else Some Foreign))
+flow_cause_is s k cells full free known within distinct full_is free_is =
+    flow_is (not (are_known s.cells cells)) (leb (length s.crossings) k) (has_repeat cells) (has_too_many_claims (with_flow s k cells)) (list_any (λ c. not (has_cell (crossing_at s k).cells c) || in_flow (crossing_at s k).flows c) cells) full free
+    (not_from_true (are_known s.cells cells) known) (lt-leb (length s.crossings) k within) distinct full_is
+    (any_foreign (has_cell (crossing_at s k).cells) (in_flow (crossing_at s k).flows) cells ∙ ap not free_is)
 
 -- a crossing or a flow without a cause has none of the causes
 pub crossing_has_none : (a b c d : Bool) → crossing_causes a b c d ≡ None → (a ≡ false) × (b ≡ false) × (c ≡ false) × (d ≡ false)

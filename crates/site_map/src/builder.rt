@@ -1,6 +1,6 @@
 //! Building a site.
 
-ghost use Rattle.std.specs.Prelude.{◌≡◌, ◌<◌, ◌≤◌, ◌&&◌, true, not, if◌then◌else◌, [], ◌∷◌, ◌++◌, length, map, take, slice_index_or, slice_set, None, Some, All, IfOk, IfErr, OnOk, OnErr};
+ghost use Rattle.std.specs.Prelude.{◌≡◌, ◌<◌, ◌≤◌, ◌&&◌, true, not, List, if◌then◌else◌, [], ◌∷◌, ◌++◌, length, map, take, slice_index_or, slice_set, None, Some, All, IfOk, IfErr, OnOk, OnErr};
 ghost use Rattle.std.specs.Vec.{vec_capacity, vec_len};
 ghost use Rattle.std.specs.FinSet as set;
 ghost use Rattle.fleet_model.specs.Lists.{has_cell};
@@ -236,15 +236,24 @@ impl SiteBuilder {
         let Some(members) = set_of(cells) else {
             return Err(BuildRefused::Repeated);
         };
-        let changed = &self.crossings[crossing as usize];
-        let others = self.owners.len() - changed.claim_count();
-        if others + changed.claim_count_with(&members) > MAX_CROSSING_CLAIMS as usize {
+        if self.claims_with_line(crossing, &members) > MAX_CROSSING_CLAIMS as usize {
             return Err(BuildRefused::Full);
         }
-        if !are_free(changed, cells) {
+        if !are_free(&self.crossings[crossing as usize], cells) {
             return Err(BuildRefused::Foreign);
         }
         Ok(members)
+    }
+
+    // The number of the crossings' claims, once the crossing has the members as a flow line.
+    fn claims_with_line(&self, crossing: u32, members: &BitSet<16>) -> usize
+        requires known { crossing < length self.now.crossings }
+        requires members { (line : List CellNo) × ((c : CellNo) → set.contains members.now c.0 ≡ has_cell line c) }
+        ensures { (line : List CellNo) → ((c : CellNo) → set.contains members.now c.0 ≡ has_cell line c)
+            → result ≡ crossing_claims (map completed (slice_set self.now.crossings crossing (with_line (crossing_at self.now crossing) line))) }
+    {
+        let changed = &self.crossings[crossing as usize];
+        self.owners.len() - changed.claim_count() + changed.claim_count_with(members)
     }
 
     // Adds a flow line of free cells to the crossing.

@@ -6,8 +6,8 @@ use Rattle.scenario_laws.proofs.Followed.{front_again, reads_front}
 use Rattle.scenario_laws.proofs.Whole.{read_again, reads_back, same_again}
 use Rattle.scenario_laws.proofs.values.scenario_reads_back.Goals as goal
 
-pub returns-clause-whole : goal.returns-clause-whole
-returns-clause-whole c =
+pub returns : goal.returns
+returns c =
     let s = c.args.scenario.now in
     let is : IsScenario s = record {
       some = c.starts.ensures.some;
@@ -20,20 +20,7 @@ returns-clause-whole c =
     } in
     let declared : AreDeclared s.names = subst AreDeclared c.names.ensures.is c.len.ensures.declared in
     let valid : IsValidSite s.site = subst IsValidSite c.site.ensures c.cell_count.ensures.valid in
-    (read_again s, reads_back s is declared valid, same_again s is declared)
-
-pub returns-clause-front : goal.returns-clause-front
-returns-clause-front c =
-    let s = c.args.scenario.now in
-    let is : IsScenario s = record {
-      some = c.starts.ensures.some;
-      few = c.starts.ensures.few;
-      starts = c.starts.ensures.known;
-      apart = c.starts.ensures.apart;
-      named = c.names.ensures.all;
-      missions = c.missions.ensures.all;
-      legs = c.missions.ensures.goals;
-    } in
-    let declared : AreDeclared s.names = subst AreDeclared c.names.ensures.is c.len.ensures.declared in
-    let valid : IsValidSite s.site = subst IsValidSite c.site.ensures c.cell_count.ensures.valid in
-    λ tail. (front_again s, reads_front s is declared valid tail, same_again s is declared, refl, refl)
+    record {
+      whole = (read_again s, reads_back s is declared valid, same_again s is declared);
+      front = λ tail. (front_again s, reads_front s is declared valid tail, same_again s is declared, refl, refl);
+    }
