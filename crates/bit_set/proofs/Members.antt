@@ -1,16 +1,16 @@
 -- What a written bit changes of a set of words.
-use Rattle.std.proofs.Common.{◌≡◌, ◌≢◌, ℕ, zero, suc, ◌+◌, ◌*◌, ◌/◌, ◌%◌, ◌^◌, ◌<◌, ◌≤◌, Bool, true, false, cond, not, ◌&&◌, ◌||◌, eqb, List, length, get_or, set, replicate, bit_and, bit_or, refl, sym, ap, ◌∙◌, inl, inr, w64, arith}
+use Rattle.std.proofs.Common.{◌≡◌, ◌≢◌, ℕ, zero, suc, ◌+◌, ◌*◌, ◌/◌, ◌%◌, ◌^◌, ◌<◌, Bool, true, false, cond, not, ◌&&◌, ◌||◌, eqb, List, length, get_or, set, replicate, bit_and, bit_or, refl, sym, ap, ◌∙◌, inl, inr, w64, arith}
 use Rattle.std.specs.Int.{bit_at, bit_not, trailing_zeros}
 use Rattle.std.specs.Ordering.{nat_cmp}
 use Rattle.std.specs.Cmp.{nat_cmp_total}
-use Rattle.std.specs.FinSet.{empty, contains, insert, remove, contains-empty, same_set, nat_cmp-IsAntisymmetric}
-use Rattle.std.proofs.lemmas.Bool.{eqb-true, false≢true, eq-eqb, ne_eqb, cases_order, cases_eq, cases_lt, cond-true, cond-false}
+use Rattle.std.specs.FinSet.{FinSet, empty, contains, insert, remove, contains-empty, same_set, nat_cmp-IsAntisymmetric}
+use Rattle.std.proofs.lemmas.Bool.{false≢true, eq-eqb, ne_eqb, cases_eq, cases_lt, cond-true, cond-false}
 use Rattle.std.proofs.lemmas.List.{length-set, get_or_past, get_or-set_same, get_or-set_other, get_or-replicate, length-replicate}
 use Rattle.std.proofs.lemmas.Nat.{one_shl, pow_pos}
 use Rattle.std.proofs.lemmas.Nat.Bits.{and_pow, bit_at-lt, bit_at-zero, bit_at-trailing_zeros, bit_at_set_same, bit_at_set_other, bit_at_clear_same, bit_at_clear_other}
 use Rattle.std.proofs.lemmas.List.Elements.{All-set}
-use Rattle.bit_set.specs.Words.{AreWords, is_marked, members_of}
-use Rattle.bit_set.specs.Marks.{contains-insert_nat, contains-remove_nat, contains-members_of}
+use Rattle.bit_set.specs.Words.{AreWords, is_in, is_marked, members_of}
+use Rattle.bit_set.specs.Marks.{contains-insert_nat, contains-remove_nat, contains-members_of, marked_bit}
 
 -- words of no bit have no members
 pub members_of-blank : (words : List ℕ) → ((k : ℕ) → k < length words → ◌≡◌ {A = ℕ} (get_or words k 0) 0) → members_of words ≡ empty
@@ -22,6 +22,10 @@ members_of-blank words blank =
 
 pub members_of-replicate : (n : ℕ) → members_of (replicate n 0) ≡ empty
 members_of-replicate n = members_of-blank (replicate n 0) (λ k within. get_or-replicate n k 0 0 (omega (arith, length-replicate {A = ℕ} n 0)))
+
+-- the word at a place has just the members of its 64 numbers
+pub is_in-word : (words : List ℕ) (numbers : FinSet nat_cmp) (place i : ℕ) → members_of words ≡ numbers → i < 64 → is_in (get_or words place 0) i ≡ contains numbers (64 * place + i)
+is_in-word words numbers place i shows below = sym (marked_bit words place i below) ∙ sym (contains-members_of words (64 * place + i)) ∙ ap (λ s. contains s (64 * place + i)) shows
 
 -- the lowest bit of a word is its least member
 pub contains-lowest : (words : List ℕ) (p : ℕ) → (get_or words p 0 ≡ 0 → ⊥) → get_or words p 0 < 2 ^ 64 → contains (members_of words) (64 * p + trailing_zeros w64 (get_or words p 0)) ≡ true
@@ -38,25 +42,6 @@ contains-lowest words p used fits =
 pub members_of-used : (words : List ℕ) (p : ℕ) → (get_or words p 0 ≡ 0 → ⊥) → get_or words p 0 < 2 ^ 64 → members_of words ≡ empty → ⊥
 members_of-used words p used fits none =
     false≢true (sym (contains-empty nat_cmp _) ∙ ap (λ s. contains s (64 * p + trailing_zeros w64 (get_or words p 0))) (sym none) ∙ contains-lowest words p used fits)
-
-pub lowest-least : (words : List ℕ) (p m : ℕ) → (get_or words p 0 ≡ 0 → ⊥) → get_or words p 0 < 2 ^ 64 → ((k : ℕ) → k < p → ◌≡◌ {A = ℕ} (get_or words k 0) 0) → contains (members_of words) m ≡ true → 64 * p + trailing_zeros w64 (get_or words p 0) ≤ m
-lowest-least words p m used fits blank member =
-    let w : ℕ = get_or words p 0 in
-    let lowest = bit_at-trailing_zeros w64 w (omega arith) fits in
-    let bit : bit_at (get_or words (m / 64) 0) (m % 64) ≡ 1 = eqb-true _ _ (sym (contains-members_of words m) ∙ member) in
-    elim (cases_order (m / 64) p) [
-      | inl same ↦ elim (cases_lt (m % 64) (trailing_zeros w64 w)) [
-        | inl below ↦
-            let clear : bit_at w (m % 64) ≡ 0 = lowest.2 (m % 64) below in
-            let set : bit_at w (m % 64) ≡ 1 = ap (λ k. bit_at (get_or words k 0) (m % 64)) (sym same) ∙ bit in
-            absurd (omega arith)
-        | inr upto ↦ omega arith
-      ]
-      | inr (inl before) ↦
-          let clear : bit_at (get_or words (m / 64) 0) (m % 64) ≡ 0 = ap (λ w. bit_at w (m % 64)) (blank (m / 64) before) ∙ bit_at-zero (m % 64) in
-          absurd (omega arith)
-      | inr (inr after) ↦ omega (arith, lowest.0)
-    ]
 
 -- the test of a number's bit
 bit_test : (b p : ℕ) → b < 2 → 0 < p → not (eqb (b * p) 0) ≡ eqb b 1

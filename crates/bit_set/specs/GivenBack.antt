@@ -1,5 +1,5 @@
 -- A set of numbers gives its words back.
-use Rattle.std.proofs.Common.{◌≡◌, ℕ, zero, suc, ◌+◌, ◌-◌, ◌*◌, ◌/◌, ◌%◌, ◌^◌, ◌<◌, Bool, true, false, cond, eqb, List, get_or, refl, sym, ap, ◌∙◌, inl, inr, arith}
+use Rattle.std.proofs.Common.{◌≡◌, ℕ, zero, suc, ◌+◌, ◌-◌, ◌*◌, ◌%◌, ◌^◌, ◌<◌, Bool, true, false, cond, eqb, List, get_or, refl, sym, ap, ◌∙◌, inl, inr, arith}
 use Rattle.std.proofs.Math.Nat.{pow-suc}
 use Rattle.std.specs.Int.{bit_at}
 use Rattle.std.specs.FinSet.{contains}
@@ -7,8 +7,8 @@ use Rattle.std.proofs.lemmas.Bool.{cases_order}
 use Rattle.std.proofs.lemmas.List.Elements.{All-get_or}
 use Rattle.std.proofs.lemmas.List.FromFn.{fill_by_all}
 use Rattle.std.proofs.lemmas.Nat.Bits.{bit_at-lt, bit_at_lowest, bit_at_cat_low, bit_at_cat_high, same_from_bits_below}
-use Rattle.bit_set.specs.Words.{AreWords, is_marked, members_of, bits_below, word_at, words_of}
-use Rattle.bit_set.specs.Marks.{contains-members_of}
+use Rattle.bit_set.specs.Words.{AreWords, members_of, bits_below, word_at, words_of}
+use Rattle.bit_set.specs.Marks.{contains-members_of, marked_bit}
 
 bits_below-lt : (p : ℕ → Bool) (n : ℕ) → bits_below p n < 2 ^ n
 bits_below-lt p zero = omega arith
@@ -41,13 +41,6 @@ bit_from_test : (b : ℕ) → b < 2 → b ≡ cond (eqb b 1) 1 0
 bit_from_test zero below = refl
 bit_from_test (suc zero) below = refl
 bit_from_test (suc (suc b)) below = absurd (omega arith)
-
--- the bit of a number is the bit of its word
-marked_bit : (words : List ℕ) (k i : ℕ) → i < 64 → is_marked words (64 * k + i) ≡ eqb (bit_at (get_or words k 0) i) 1
-marked_bit words k i below =
-    let row : (64 * k + i) / 64 ≡ k = omega arith in
-    let column : (64 * k + i) % 64 ≡ i = omega arith in
-    ap (λ j. eqb (bit_at (get_or words j 0) ((64 * k + i) % 64)) 1) row ∙ ap (λ j. eqb (bit_at (get_or words k 0) j) 1) column
 
 word_at-members_of : (words : List ℕ) (k : ℕ) → get_or words k 0 < 2 ^ 64 → get_or words k 0 ≡ word_at (members_of words) k
 unfolding word_at

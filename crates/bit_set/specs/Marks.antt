@@ -1,5 +1,5 @@
 -- What a set of words contains.
-use Rattle.std.proofs.Common.{◌≡◌, ℕ, zero, suc, ◌*◌, ◌/◌, ◌%◌, ◌<◌, ◌≤◌, Bool, true, false, cond, not, ◌&&◌, ◌||◌, eqb, ltb, List, length, refl, sym, ap, ◌∙◌, inl, inr, arith, tests}
+use Rattle.std.proofs.Common.{◌≡◌, ℕ, zero, suc, ◌+◌, ◌*◌, ◌/◌, ◌%◌, ◌<◌, ◌≤◌, Bool, true, false, cond, not, ◌&&◌, ◌||◌, eqb, ltb, List, length, get_or, refl, sym, ap, ◌∙◌, inl, inr, arith, tests}
 use Rattle.std.specs.Ordering.{nat_cmp}
 use Rattle.std.specs.Cmp.{nat_cmp_total, unsigned_tied}
 use Rattle.std.specs.FinSet.{FinSet, contains, insert, remove, contains-empty, contains-insert, contains-remove}
@@ -7,7 +7,7 @@ use Rattle.std.proofs.lemmas.Bool.{ltb-true, lt-ltb, le-ltb, eq-eqb, ne_eqb, cas
 use Rattle.std.proofs.lemmas.List.{get_or_past}
 use Rattle.std.proofs.lemmas.Nat.{le-div}
 use Rattle.std.proofs.lemmas.Nat.Bits.{bit_at-zero}
-use Rattle.bit_set.specs.Words.{is_marked, passing_below, members_of}
+use Rattle.bit_set.specs.Words.{is_in, is_marked, passing_below, members_of}
 
 -- the three places of a number against a bound
 one_more : (p : ℕ → Bool) (n q : ℕ) → p n ≡ true → (eqb q n || (ltb q n && p q)) ≡ (ltb q (suc n) && p q)
@@ -46,7 +46,8 @@ pub members_of-below : (words : List ℕ) (q : ℕ) → contains (members_of wor
 unfolding members_of
 members_of-below words q e = ltb-true _ _ (and_parts _ _ (sym (contains-passing_below (is_marked words) (64 * length words) q) ∙ e)).0
 
-unmarked_past : (words : List ℕ) (q : ℕ) → 64 * length words ≤ q → is_marked words q ≡ false
+-- a number behind the words isn't marked
+pub unmarked_past : (words : List ℕ) (q : ℕ) → 64 * length words ≤ q → is_marked words q ≡ false
 unmarked_past words q past = rw (get_or_past words (q / 64) 0 (le-div (length words) q 64 (omega arith) (omega arith)), bit_at-zero (q % 64))
 
 -- a number is a member where its bit is set
@@ -58,3 +59,10 @@ contains-members_of words q =
       | true ↦ λ e. refl
       | false ↦ λ e. sym (unmarked_past words q (grind (arith, tests)))
     ] refl
+
+-- the bit of a number is the bit of its word
+pub marked_bit : (words : List ℕ) (k i : ℕ) → i < 64 → is_marked words (64 * k + i) ≡ is_in (get_or words k 0) i
+marked_bit words k i below =
+    let row : (64 * k + i) / 64 ≡ k = omega arith in
+    let column : (64 * k + i) % 64 ≡ i = omega arith in
+    ap (λ j. is_in (get_or words j 0) ((64 * k + i) % 64)) row ∙ ap (λ j. is_in (get_or words k 0) j) column

@@ -5,9 +5,13 @@ use Rattle.std.specs.Int.{bit_at}
 use Rattle.std.specs.Ordering.{nat_cmp}
 use Rattle.std.specs.FinSet as set
 
+-- whether the number is in the set that is a word: its bit is set
+abbrev pub is_in : ℕ → ℕ → Bool
+is_in word number = bit_at word number == 1
+
 -- whether the bit of the number is set in its word
 abbrev pub is_marked : List ℕ → ℕ → Bool
-is_marked words number = bit_at (slice_index words (number / 64)) (number % 64) == 1
+is_marked words number = is_in (slice_index words (number / 64)) (number % 64)
 
 -- the numbers below the bound that pass the test
 abbrev pub passing_below : (ℕ → Bool) → ℕ → set.FinSet nat_cmp

@@ -1,9 +1,12 @@
 //! Sets of small numbers, one bit for each number, in place.
 #![tactic(auto)]
 
-ghost use Rattle.std.specs.Prelude.{◌≡◌, ℕ, ◌*◌, ◌^◌, ◌<◌, ◌≤◌, ◌↔◌, true, IsTrue, IfSome, IfNone};
+ghost use Rattle.std.specs.Prelude.{◌≡◌, ℕ, ◌+◌, ◌*◌, ◌^◌, ◌<◌, ◌≤◌, ◌↔◌, true, false, IsTrue, IfSome, IfNone};
 ghost use Rattle.std.specs.Ordering.{nat_cmp};
 ghost use Rattle.std.specs.FinSet as set;
+ghost use Rattle.bit_set.specs.Words.{is_in};
+
+pub mod word;
 
 use std::marker::Model;
 
@@ -78,19 +81,32 @@ impl<const WORDS: usize> BitSet<WORDS> {
         true
     }
 
-    /// The least number of the set. None exactly where the set is empty.
-    pub fn first(&self) -> Option<u32>
+    /// The least number of the set that isn't below `from`. None exactly where there is none.
+    pub fn next(&self, from: u32) -> Option<u32>
         requires { 64 * WORDS ≤ 2 ^ 32 }
         ensures member { IfSome result (λ n. set.contains self.now n ≡ true) }
-        ensures least { IfSome result (λ n. (m : ℕ) → set.contains self.now m ≡ true → n ≤ m) }
-        ensures none { IfNone result (self.now ≡ set.empty) }
+        ensures behind { IfSome result (λ n. from ≤ n) }
+        ensures below { IfSome result (λ n. n < 64 * WORDS) }
+        ensures least { IfSome result (λ n. (m : ℕ) →
+            from ≤ m → set.contains self.now m ≡ true → n ≤ m) }
+        ensures none { IfNone result ((m : ℕ) → from ≤ m → set.contains self.now m ≡ false) }
     {
-        for (place, word) in self.words.iter().enumerate() {
-            if *word != 0 {
-                return Some(64 * place as u32 + word.trailing_zeros());
+        let mut low = from % 64;
+        for place in (from / 64) as usize..WORDS {
+            if let Some(bit) = word::next(self.words[place], low) {
+                return Some(64 * place as u32 + bit);
             }
+            low = 0;
         }
         None
+    }
+
+    /// The word at the place: which of the 64 numbers from 64 times the place on are in the set.
+    pub fn word(&self, place: usize) -> u64
+        requires { place < WORDS }
+        ensures { (i : ℕ) → i < 64 → is_in result i ≡ set.contains self.now (64 * place + i) }
+    {
+        self.words[place]
     }
 }
 
@@ -102,7 +118,7 @@ mod tests {
     fn keeps_numbers(rt: HostRuntime) {
         let mut set: BitSet<2> = BitSet::new();
         assert!(rt; set.is_empty());
-        assert_eq!(rt; set.first(), None);
+        assert_eq!(rt; set.next(0), None);
         set.insert(127);
         set.insert(64);
         set.insert(3);
@@ -110,7 +126,10 @@ mod tests {
         set.remove(3);
         assert!(rt; with_three.contains(3));
         assert!(rt; !set.is_empty());
-        assert_eq!(rt; set.first(), Some(64));
+        assert_eq!(rt; set.next(0), Some(64));
+        assert_eq!(rt; set.next(65), Some(127));
+        assert_eq!(rt; set.next(128), None);
+        assert_eq!(rt; set.word(1), (1 << 63) + 1);
         for (number, there) in [
             (3, false),
             (63, false),
@@ -120,5 +139,15 @@ mod tests {
         ] {
             assert_eq!(rt; set.contains(number), there, "at {number}");
         }
+    }
+
+    #[test]
+    fn words_are_sets(rt: HostRuntime) {
+        let set = word::with(word::with(0, 63), 5);
+        assert!(rt; word::has(set, 63));
+        assert!(rt; !word::has(set, 6));
+        assert_eq!(rt; word::without(set, 63), 32);
+        assert_eq!(rt; word::next(set, 6), Some(63));
+        assert_eq!(rt; word::next(set, 64), None);
     }
 }

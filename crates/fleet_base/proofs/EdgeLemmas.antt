@@ -1,9 +1,11 @@
 -- What edges lead where, after each call.
-use Rattle.std.proofs.Common.{◌≡◌, ℕ, ◌<◌, Bool, true, false, cond, not, ◌&&◌, ◌||◌, eqb, ltb, refl, sym, ap, ◌∙◌, inl, inr, arith}
+use Rattle.std.proofs.Common.{◌≡◌, ℕ, ◌^◌, ◌<◌, Bool, true, false, cond, not, ◌&&◌, ◌||◌, eqb, ltb, refl, sym, ap, ◌∙◌, inl, inr, arith}
 use Rattle.std.specs.Ordering.{nat_cmp}
 use Rattle.std.specs.FinSet.{FinSet, empty, contains, insert, remove, contains-empty}
 use Rattle.std.proofs.lemmas.Bool.{lt-ltb, le-ltb, eq-eqb, ne_eqb, cases_eq, cases_lt, and_right, cond-false}
 use Rattle.bit_set.specs.Marks.{contains-insert_nat, contains-remove_nat}
+use Rattle.bit_set.specs.Words.{is_in}
+use Rattle.bit_set.proofs.WordBits.{is_in-past}
 use Rattle.fleet_base.specs.EdgeSets.{edge_place, leads}
 
 -- where there are no edges, none leads anywhere
@@ -48,3 +50,11 @@ leads-insert edges from to known = leads_changed edges _ from to true known (λ 
 -- an edge that is made not to lead
 pub leads-remove : (edges : FinSet nat_cmp) (from to : ℕ) → to < 64 → (r q : ℕ) → leads (remove edges (edge_place from to)) r q ≡ cond (eqb r from && eqb q to) false (leads edges r q)
 leads-remove edges from to known = leads_changed edges _ from to false known (λ p. contains-remove_nat edges (edge_place from to) p ∙ and-cond (eqb p (edge_place from to)) (contains edges p))
+
+-- the word of a row has the robots that edges lead to
+pub is_in-row : (edges : FinSet nat_cmp) (word from : ℕ) → word < 2 ^ 64 → ((i : ℕ) → i < 64 → is_in word i ≡ contains edges (edge_place from i)) → (q : ℕ) → is_in word q ≡ leads edges from q
+is_in-row edges word from fits shown q =
+    elim (cases_lt q 64) [
+      | inl within ↦ rw (lt-ltb q 64 within) (shown q within)
+      | inr past ↦ rw (le-ltb q 64 past) (is_in-past word q fits past)
+    ]

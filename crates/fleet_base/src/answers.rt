@@ -7,6 +7,14 @@ use crate::robot_list::RobotList;
 #[derive(Clone, Copy, Debug, PartialEq, Eq)]
 pub struct UnknownRobot;
 
+/// What keeps a route from being merged: a claim that it needs, and another robot whose end keeps
+/// the claim.
+#[derive(Clone, Copy, Debug, PartialEq, Eq)]
+pub struct Blocker {
+    pub claim: ClaimNo,
+    pub by: RobotNo,
+}
+
 /// Why a route can't be merged: the least claim that it needs and that another robot's end keeps
 /// from it, the least such robot, and the cycle of deferrals through the caller, empty where there
 /// is none.

@@ -1,6 +1,6 @@
 //! A set of claims in place.
 
-ghost use Rattle.std.specs.Prelude.{◌≡◌, ◌<◌};
+ghost use Rattle.std.specs.Prelude.{◌≡◌, ℕ, ◌<◌, ◌≤◌, true, false, IfSome, IfNone};
 ghost use Rattle.std.specs.FinSet as set;
 
 use crate::limits::MAX_CLAIMS;
@@ -54,5 +54,17 @@ impl ClaimSet {
         ensures { self.new ≡ set.insert self.old claim.0 }
     {
         self.numbers.insert(claim.0);
+    }
+
+    /// The least claim of the set that isn't below `from`. None exactly where there is none.
+    pub fn next(&self, from: ClaimNo) -> Option<ClaimNo>
+        ensures member { IfSome result (λ c. set.contains self.now c.0 ≡ true) }
+        ensures behind { IfSome result (λ c. from.0 ≤ c.0) }
+        ensures below { IfSome result (λ c. c.0 < MAX_CLAIMS) }
+        ensures least { IfSome result (λ c. (n : ℕ) →
+            from.0 ≤ n → set.contains self.now n ≡ true → c.0 ≤ n) }
+        ensures none { IfNone result ((n : ℕ) → from.0 ≤ n → set.contains self.now n ≡ false) }
+    {
+        self.numbers.next(from.0).map(ClaimNo)
     }
 }

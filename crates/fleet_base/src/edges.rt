@@ -1,6 +1,7 @@
 //! A relation between robots in place.
 
 ghost use Rattle.std.specs.Prelude.{◌≡◌, ℕ, ◌<◌, ◌==◌, ◌&&◌, false, if◌then◌else◌};
+ghost use Rattle.bit_set.specs.Words.{is_in};
 ghost use Rattle.fleet_base.specs.EdgeSets.{edge_place, leads};
 
 use crate::limits::MAX_ROBOTS;
@@ -47,6 +48,14 @@ impl Edges {
         ensures { result ≡ leads self.now from.0 to.0 }
     {
         self.rows.contains(place_of(from, to))
+    }
+
+    /// The robots that edges lead to from this one, as the bits of one word.
+    pub fn row(&self, from: RobotNo) -> u64
+        requires { from.0 < MAX_ROBOTS }
+        ensures { (q : ℕ) → is_in result q ≡ leads self.now from.0 q }
+    {
+        self.rows.word(from.0 as usize)
     }
 
     /// Makes the edge from the first robot to the second lead or not. No other edge changes.

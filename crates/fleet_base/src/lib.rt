@@ -8,6 +8,7 @@ pub mod edges;
 pub mod entries;
 pub mod held;
 pub mod limits;
+pub mod marks;
 pub mod numbers;
 pub mod path;
 mod placing;

@@ -45,5 +45,12 @@ pub const MAX_INPUT: u64 = 4_194_304;
 /// Bytes of the input of `replay`.
 pub const MAX_REPLAY_INPUT: u64 = 67_108_864;
 
-/// The cap of a coordinator: entries of its journal and events and routes that are owed.
+/// The cap of a coordinator: entries of a segment of its journal and events and routes that are
+/// owed.
 pub const MAX_CAP: u32 = 1_000_000;
+
+/// Entries of a journal, in all its segments, and events and routes that are owed.
+pub const MAX_COUNT: u64 = 100_000_000;
+
+/// The number with which a run begins.
+pub const MAX_FIRST: u64 = 100_000_000_000_000;

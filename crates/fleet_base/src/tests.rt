@@ -65,6 +65,9 @@ fn set_of_claims(rt: HostRuntime) {
     assert!(rt; claims.holds(ClaimNo(1_279)));
     assert!(rt; claims.holds(ClaimNo(0)));
     assert!(rt; !claims.holds(ClaimNo(1_278)));
+    assert_eq!(rt; claims.next(ClaimNo(0)), Some(ClaimNo(0)));
+    assert_eq!(rt; claims.next(ClaimNo(1)), Some(ClaimNo(1_279)));
+    assert_eq!(rt; claims.next(ClaimNo(1_280)), None);
 }
 
 #[test]
@@ -76,4 +79,6 @@ fn edges_lead_one_way(rt: HostRuntime) {
     assert!(rt; edges.has(RobotNo(3), RobotNo(63)));
     assert!(rt; !edges.has(RobotNo(63), RobotNo(3)));
     assert!(rt; !edges.has(RobotNo(4), RobotNo(0)));
+    assert_eq!(rt; edges.row(RobotNo(3)), 1 << 63);
+    assert_eq!(rt; edges.row(RobotNo(4)), 0);
 }
