@@ -24,7 +24,7 @@ use Rattle.fleet_model.proofs.GoodStates.{journal_good}
 use Rattle.fleet_model.proofs.Rotations.{cycle_closed}
 
 -- a robot that is deferred on another answers a retry so
-still : (s : State) (r q : ℕ) → r < length s.fleet.starts → IsDeferredOn s r q → (block : Block) × ((retry s r).answer ≡ Err (StillDeferred block))
+pub still : (s : State) (r q : ℕ) → r < length s.fleet.starts → IsDeferredOn s r q → (block : Block) × ((retry s r).answer ≡ Err (StillDeferred block))
 still s r q known d = go (least_blocker s.fleet.site (ends s.fleet) r (needs s.fleet.site (pending_route s r))) refl
   where
     blocked : IsBlocker s.fleet r (pending_route s r) d.claim q

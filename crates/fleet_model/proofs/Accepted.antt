@@ -21,8 +21,8 @@ use Rattle.fleet_model.specs.Lists.{In, here, when, first_some, has_cell}
 use Rattle.fleet_model.specs.Sites.{Site, IsSite, is_linked, IsWalk, IsWalkFrom, needs, steps}
 use Rattle.fleet_model.specs.Plans.{Fleet, own, unfinished, is_done, is_awaited, after, awaited, latest, IsBehind, IsReady, IsRoute, end_of, merged, route_events, removable_tail, withdrawn}
 use Rattle.fleet_model.specs.Deferral.{ends, least_blocker}
-use Rattle.fleet_model.specs.States.{State, is_robot, pending_of, pending_route, owed, is_full, block_of}
-use Rattle.fleet_model.specs.Calls.{Step, unless, unless_refused, propose_refusals, retry_refusals, cancel_refusals, withdraw_refusals, replan_refusals, report_refusals, accepted, moved, with_route, deferring, first_of, first_unlinked, unlinked_at, begin_at, propose_growth, propose_outcome, propose, detour_of, next_event, waits_on, is_number, reported, span_of, retry, cancel, withdraw, replan, report, look_of, Call, Propose, Retry, Cancel, Withdraw, Replan, Report, LookAt, turn}
+use Rattle.fleet_model.specs.States.{State, is_robot, pending_of, pending_route, owed, is_full, base_behind, block_of}
+use Rattle.fleet_model.specs.Calls.{Step, unless, unless_refused, propose_refusals, retry_refusals, cancel_refusals, withdraw_refusals, replan_refusals, report_refusals, accepted, moved, in_segment, with_route, deferring, merge_growth, first_of, first_unlinked, unlinked_at, begin_at, propose_growth, propose_outcome, propose, detour_of, next_event, waits_on, is_number, reported, span_of, retry, cancel, withdraw, replan, report, look_of, Call, Propose, Retry, Cancel, Withdraw, Replan, Report, LookAt, turn}
 use Rattle.fleet_model.specs.Good.{IsAscending, IsGoodPlan, IsGood}
 use Rattle.fleet_model.proofs.Lists.{In-nil, In_either, In-append_right, In-filter, In_unfilter, length_In, some_one}
 use Rattle.fleet_model.proofs.Options.{not_none, none_of, map_none, map_some, when_none}
@@ -36,6 +36,7 @@ use Rattle.fleet_model.proofs.Deferrals.{pending_is}
 use Rattle.fleet_model.proofs.Pending.{emptied_le, emptied_less, filled_le}
 use Rattle.fleet_model.proofs.Filters.{filter_less, filter_misses, filter_swap, length-filter-le}
 use Rattle.fleet_model.proofs.Numbered.{length-numbered}
+use Rattle.fleet_model.proofs.Segments.{IsRoom, room_behind}
 use Rattle.fleet_model.proofs.Changes.{HasStart, IsClear, Tells, Accepts, Grew, Kept, Dropped, Cut, Did}
 use Rattle.fleet_base.specs.declared.answers.ReplanRefused.{ReplanRefused}
 use Rattle.fleet_base.specs.declared.numbers.Span.{Span}
@@ -159,8 +160,8 @@ unfinished-merged m r route =
     omega arith
 
 -- an accepted proposal
-pub accepts_propose : (s : State) (r : ℕ) (cells : List CellNo) (entry : Entry) → (propose s r cells).entry ≡ Some entry → Accepts s r entry (propose s r cells).after
-accepts_propose s r cells entry h = go (block_of (deferring s r cells) r cells) refl
+pub accepts_propose : (s : State) (r : ℕ) (cells : List CellNo) (entry : Entry) → IsGood s → (propose s r cells).entry ≡ Some entry → Accepts s r entry (propose s r cells).after
+accepts_propose s r cells entry good h = go (block_of (deferring s r cells) r cells) refl
   where
     blocked : Option Block
     blocked = block_of (deferring s r cells) r cells
@@ -171,17 +172,22 @@ accepts_propose s r cells entry h = go (block_of (deferring s r cells) r cells) 
     facts : IsProposal s r cells blocked
     facts = proposal s r cells blocked is.none
 
+    free : (o : Option Block) → blocked ≡ o → IsRoom s (propose_growth s cells o) (base_behind s (propose_growth s cells o))
+    free o e = room_behind s (propose_growth s cells o) good.base (subst (λ o. is_full s (propose_growth s cells o) ≡ false) e facts.room)
+
+    merge_less : owed (with_route s r cells) ≤ owed s + length (steps s.fleet.site cells)
+    merge_less = let some = unfinished-merged s.fleet r cells in let pend = emptied_le s.pending r in omega arith
+
     go : (o : Option Block) → blocked ≡ o → Accepts s r entry (propose s r cells).after
     go None e =
         let t = told r (Merged cells (first_of s)) entry (subst (λ o. (propose_outcome s r cells o).entry ≡ Some entry) e is.told) in
         record {
           change = Grew cells;
           can = (facts.start, facts.route, none_unblocked s.fleet r cells (map_none _ (least_blocker s.fleet.site (ends s.fleet) r (needs s.fleet.site cells)) e));
-          room = (
-              let free = ltb-false s.cap (s.count + owed s + (1 + length (steps s.fleet.site cells))) (subst (λ o. is_full s (propose_growth s cells o) ≡ false) e facts.room) in
-              let some = unfinished-merged s.fleet r cells in
-              let pend = emptied_le s.pending r in
-              omega arith);
+          base = base_behind s (propose_growth s cells None);
+          begun = (free None e).base;
+          room = (let f = (free None e).segment in let l = merge_less in omega arith);
+          total = (let f = (free None e).total in let l = merge_less in omega arith);
           after_is = ap (λ x. x.after) is.is ∙ ap (λ o. (propose_outcome s r cells o).after) e;
           robot = t.0;
           tells = subst (λ a. Tells s r (Grew cells) a) (sym t.1) (refl, facts.none);
@@ -192,19 +198,18 @@ accepts_propose s r cells entry h = go (block_of (deferring s r cells) r cells) 
         record {
           change = Kept cells;
           can = (facts.none, facts.route, (found.0.0, found.0.1, found_blocks s.fleet r cells found.0 found.1));
-          room = (
-              let free = ltb-false s.cap (s.count + owed s + 2) (subst (λ o. is_full s (propose_growth s cells o) ≡ false) e facts.room) in
-              let pend = filled_le s.pending r cells in
-              omega arith);
+          base = base_behind s (propose_growth s cells (Some block));
+          begun = (free (Some block) e).base;
+          room = (let f = (free (Some block) e).segment in let pend = filled_le s.pending r cells in omega arith);
+          total = (let f = (free (Some block) e).total in let pend = filled_le s.pending r cells in omega arith);
           after_is = ap (λ x. x.after) is.is ∙ ap (λ o. (propose_outcome s r cells o).after) e;
           robot = t.0;
           tells = subst (λ a. Tells s r (Kept cells) a) (sym t.1) (refl, ap (λ (b : Block). b.cycle) (sym found.2));
         }
 
--- room for a pending route that is merged
-joined_room : (s : State) (r : ℕ) (route old : List CellNo) → pending_of s r ≡ Some old → is_full s (length (steps s.fleet.site route)) ≡ false → s.count + 1 + owed (with_route s r route) ≤ s.cap
-joined_room s r route old pends free =
-    let fits = ltb-false s.cap (s.count + owed s + length (steps s.fleet.site route)) free in
+-- a pending route that is merged isn't owed any more
+joined_less : (s : State) (r : ℕ) (route old : List CellNo) → pending_of s r ≡ Some old → 1 + owed (with_route s r route) ≤ owed s + merge_growth s route
+joined_less s r route old pends =
     let some = unfinished-merged s.fleet r route in
     let pend = emptied_less s.pending r old pends in
     omega arith
@@ -214,7 +219,10 @@ pub accepts_retry : (s : State) (r : ℕ) (entry : Entry) → IsGood s → (retr
 accepts_retry s r entry good h = record {
   change = Grew route;
   can = (robot_start s r retry_refused.UnknownRobot is.none.0, subst (λ x. IsRoute s.fleet r x) (sym (pending_is s r pends.0 pends.1)) (good.routes r pends.0 pends.1), clear);
-  room = joined_room s r route pends.0 pends.1 (when_none (is_full s (length (steps s.fleet.site route))) retry_refused.Full is.none.1.1.1.0);
+  base = base_behind s (merge_growth s route);
+  begun = free.base;
+  room = (let f = free.segment in let l = joined_less s r route pends.0 pends.1 in omega arith);
+  total = (let f = free.total in let l = joined_less s r route pends.0 pends.1 in omega arith);
   after_is = ap (λ x. x.after) is.is;
   robot = t.0;
   tells = subst (λ a. Tells s r (Grew route) a) (sym t.1) (pends.1 ∙ ap (λ x. Some x) (sym (pending_is s r pends.0 pends.1)));
@@ -223,8 +231,11 @@ accepts_retry s r entry good h = record {
     route : List CellNo
     route = pending_route s r
 
-    is : IsAccepted (retry_refusals s r route) s (accepted (span_of s route) r (Retried (first_of s)) (with_route s r route)) entry
-    is = unless_accepted (retry_refusals s r route) s (accepted (span_of s route) r (Retried (first_of s)) (with_route s r route)) entry h
+    is : IsAccepted (retry_refusals s r route) s (accepted (span_of s route) r (Retried (first_of s)) (in_segment s (merge_growth s route) (with_route s r route))) entry
+    is = unless_accepted (retry_refusals s r route) s (accepted (span_of s route) r (Retried (first_of s)) (in_segment s (merge_growth s route) (with_route s r route))) entry h
+
+    free : IsRoom s (merge_growth s route) (base_behind s (merge_growth s route))
+    free = room_behind s (merge_growth s route) good.base (when_none (is_full s (merge_growth s route)) retry_refused.Full is.none.1.1.1.0)
 
     pends : (old : List CellNo) × (pending_of s r ≡ Some old)
     pends = pending_there s r retry_refused.NoPending is.none.1.0
@@ -248,7 +259,10 @@ accepts_cancel s r entry good h =
     record {
       change = Dropped;
       can = pends;
+      base = s.base;
+      begun = good.base;
       room = (let pend = emptied_less s.pending r pends.0 pends.1 in let fits = good.room in omega arith);
+      total = (let pend = emptied_less s.pending r pends.0 pends.1 in let fits = good.total in omega arith);
       after_is = ap (λ x. x.after) is.is;
       robot = t.0;
       tells = subst (λ a. Tells s r Dropped a) (sym t.1) tt;
@@ -261,14 +275,14 @@ pub record IsReplanned (s : State) (r : ℕ) (goal : CellNo → Bool) (entry : E
   pub none : AllNone (replan_refusals s r goal (Some route))
   pub robot : entry.robot.0 ≡ r
   pub act : entry.act ≡ Replanned route (first_of s)
-  pub is : replan s r goal ≡ accepted (span_of s route) r (Replanned route (first_of s)) (with_route s r route)
+  pub is : replan s r goal ≡ accepted (span_of s route) r (Replanned route (first_of s)) (in_segment s (merge_growth s route) (with_route s r route))
 
 -- an accepted replan found a detour
 pub replanned : (s : State) (r : ℕ) (goal : CellNo → Bool) (entry : Entry) → (replan s r goal).entry ≡ Some entry → IsReplanned s r goal entry
 replanned s r goal entry h = go (detour_of s.fleet r goal) refl
   where
     done : List CellNo → Step Span ReplanRefused
-    done route = accepted (span_of s route) r (Replanned route (first_of s)) (with_route s r route)
+    done route = accepted (span_of s route) r (Replanned route (first_of s)) (in_segment s (merge_growth s route) (with_route s r route))
 
     go : (o : Option (List CellNo)) → detour_of s.fleet r goal ≡ o → IsReplanned s r goal entry
     go o e = at o e (unless_accepted (replan_refusals s r goal o) s (done (unwrap_or o [])) entry (subst (λ x. (unless (replan_refusals s r goal x) s (done (unwrap_or x []))).entry ≡ Some entry) e h))
@@ -280,10 +294,11 @@ replanned s r goal entry h = go (detour_of s.fleet r goal) refl
             record { route = route; found = e; none = is.none; robot = t.0; act = t.1; is = ap (λ x. unless (replan_refusals s r goal x) s (done (unwrap_or x []))) e ∙ is.is }
 
 -- an accepted replan
-pub accepts_replan : (s : State) (r : ℕ) (goal : CellNo → Bool) (entry : Entry) → IsSite s.fleet.site → (replan s r goal).entry ≡ Some entry → Accepts s r entry (replan s r goal).after
-accepts_replan s r goal entry is_site h =
+pub accepts_replan : (s : State) (r : ℕ) (goal : CellNo → Bool) (entry : Entry) → IsSite s.fleet.site → IsGood s → (replan s r goal).entry ≡ Some entry → Accepts s r entry (replan s r goal).after
+accepts_replan s r goal entry is_site good h =
     let p = replanned s r goal entry h in
     let pends = pending_there s r replan_refused.NoPending p.none.1.0 in
+    let free = room_behind s (merge_growth s p.route) good.base (when_none (is_full s (merge_growth s p.route)) replan_refused.Full p.none.1.1.1.1.0) in
     record {
       change = Grew p.route;
       can = (
@@ -291,7 +306,10 @@ accepts_replan s r goal entry is_site h =
         detour_route s.fleet r goal p.route is_site (when_none (goal (end_of s.fleet r)) replan_refused.AtGoal p.none.1.1.0) p.found,
         detour_free s.fleet r goal is_site p.route p.found,
       );
-      room = joined_room s r p.route pends.0 pends.1 (when_none (is_full s (length (steps s.fleet.site p.route))) replan_refused.Full p.none.1.1.1.1.0);
+      base = base_behind s (merge_growth s p.route);
+      begun = free.base;
+      room = (let f = free.segment in let l = joined_less s r p.route pends.0 pends.1 in omega arith);
+      total = (let f = free.total in let l = joined_less s r p.route pends.0 pends.1 in omega arith);
       after_is = ap (λ x. x.after) p.is;
       robot = p.robot;
       tells = subst (λ a. Tells s r (Grew p.route) a) (sym p.act) (refl, pends);
@@ -302,11 +320,10 @@ pub accepts_withdraw : (s : State) (r : ℕ) (entry : Entry) → IsGood s → (w
 accepts_withdraw s r entry good h = record {
   change = Cut;
   can = length_In tail some.0 some.1;
-  room = (
-      let fewer : length (unfinished fleet) + 1 ≤ length (unfinished s.fleet) = cut_fewer s.fleet r good.plan some.0 some.1 in
-      let pend = emptied_le s.pending r in
-      let fits = good.room in
-      omega arith);
+  base = s.base;
+  begun = good.base;
+  room = (let less = fewer in let fits = good.room in omega arith);
+  total = (let less = fewer in let fits = good.total in omega arith);
   after_is = ap (λ x. x.after) is.is;
   robot = t.0;
   tells = subst (λ a. Tells s r Cut a) (sym t.1) tt;
@@ -326,6 +343,9 @@ accepts_withdraw s r entry good h = record {
 
     some : (e : Event) × In e tail
     some = some_one tail (when_none (length tail == 0) withdraw_refused.Nothing is.none.1.0)
+
+    fewer : 1 + owed (moved s fleet r None) ≤ owed s
+    fewer = let left = cut_fewer s.fleet r good.plan some.0 some.1 in let pend = emptied_le s.pending r in omega arith
 
     t : (entry.robot.0 ≡ r) × (entry.act ≡ Withdrawn (length tail) (end_of fleet r))
     t = told r (Withdrawn (length tail) (end_of fleet r)) entry is.told
@@ -392,10 +412,10 @@ accepts_report s r n entry good h = go (next_event s.fleet r) refl
         record {
           change = Did event;
           can = ready;
-          room = (
-              let fewer = done_fewer s.fleet event ready.1 in
-              let fits = good.room in
-              omega arith);
+          base = s.base;
+          begun = good.base;
+          room = (let fewer = done_fewer s.fleet event ready.1 in let fits = good.room in omega arith);
+          total = (let fewer = done_fewer s.fleet event ready.1 in let fits = good.total in omega arith);
           after_is = ap (λ x. x.after) is.is ∙ ap (λ o. record s { fleet = reported s.fleet o; count = s.count + 1 }) e;
           robot = t.0;
           tells = subst (λ a. Tells s r (Did event) a) (sym t.1) (same_number event.no n (eqb-true event.no.0 n.0 (subst (λ o. is_number o n ≡ true) e numbered_so)));
@@ -408,10 +428,10 @@ no_entry s r false refused entry e = absurd (cc)
 
 -- what an accepted call did
 pub accepts : (s : State) (r : ℕ) (call : Call) (entry : Entry) → IsSite s.fleet.site → IsGood s → (turn s r call).entry ≡ Some entry → Accepts s r entry (turn s r call).after
-accepts s r (Propose cells) entry is_site good h = accepts_propose s r cells entry h
+accepts s r (Propose cells) entry is_site good h = accepts_propose s r cells entry good h
 accepts s r Retry entry is_site good h = accepts_retry s r entry good h
 accepts s r Cancel entry is_site good h = accepts_cancel s r entry good h
 accepts s r Withdraw entry is_site good h = accepts_withdraw s r entry good h
-accepts s r (Replan cells) entry is_site good h = accepts_replan s r (has_cell cells) entry is_site h
+accepts s r (Replan cells) entry is_site good h = accepts_replan s r (has_cell cells) entry is_site good h
 accepts s r (Report n) entry is_site good h = accepts_report s r n entry good h
 accepts s r LookAt entry is_site good h = absurd (no_entry s r (not (is_robot s r)) (record {}) entry h)

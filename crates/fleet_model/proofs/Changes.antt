@@ -5,6 +5,7 @@ use Rattle.fleet_base.specs.Lists.{robots_of}
 use Rattle.fleet_base.specs.declared.entries.Act.{Act}
 use Rattle.fleet_base.specs.declared.entries.Act.TheVariants.{Merged, Deferred, Retried, Canceled, Withdrawn, Replanned, Reported}
 use Rattle.fleet_base.specs.declared.entries.Entry.{Entry}
+use Rattle.fleet_base.specs.declared.limits.TheConstants.{MAX_COUNT}
 use Rattle.fleet_base.specs.declared.numbers.CellNo.{CellNo}
 use Rattle.fleet_base.specs.declared.numbers.ClaimNo.{ClaimNo}
 use Rattle.fleet_base.specs.declared.numbers.Event.{Event}
@@ -59,8 +60,11 @@ Tells s r _ _ = ⊥
 pub record Accepts (s : State) (r : ℕ) (entry : Entry) (after : State) : Type 0 where
   pub change : Change
   pub can : CanChange s r change
-  pub room : s.count + 1 + owed (changed s r change) ≤ s.cap
-  pub after_is : after ≡ changed s r change
+  pub base : ℕ
+  pub begun : base ≤ s.count
+  pub room : s.count + 1 + owed (changed s r change) ≤ base + s.cap
+  pub total : s.count + 1 + owed (changed s r change) ≤ MAX_COUNT
+  pub after_is : after ≡ record (changed s r change) { base = base }
   pub robot : entry.robot.0 ≡ r
   pub tells : Tells s r change entry.act
 
@@ -70,6 +74,13 @@ changed_count s r (Kept route) = refl
 changed_count s r Dropped = refl
 changed_count s r Cut = refl
 changed_count s r (Did e) = refl
+
+pub changed_base : (s : State) (r : ℕ) (c : Change) → (changed s r c).base ≡ s.base
+changed_base s r (Grew route) = refl
+changed_base s r (Kept route) = refl
+changed_base s r Dropped = refl
+changed_base s r Cut = refl
+changed_base s r (Did e) = refl
 
 pub changed_cap : (s : State) (r : ℕ) (c : Change) → (changed s r c).cap ≡ s.cap
 changed_cap s r (Grew route) = refl
@@ -84,6 +95,13 @@ changed_site s r (Kept route) = refl
 changed_site s r Dropped = refl
 changed_site s r Cut = refl
 changed_site s r (Did e) = refl
+
+pub changed_first : (s : State) (r : ℕ) (c : Change) → (changed s r c).fleet.first ≡ s.fleet.first
+changed_first s r (Grew route) = refl
+changed_first s r (Kept route) = refl
+changed_first s r Dropped = refl
+changed_first s r Cut = refl
+changed_first s r (Did e) = refl
 
 pub changed_starts : (s : State) (r : ℕ) (c : Change) → (changed s r c).fleet.starts ≡ s.fleet.starts
 changed_starts s r (Grew route) = refl

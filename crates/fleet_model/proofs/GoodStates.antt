@@ -4,6 +4,7 @@ use Rattle.std.proofs.lemmas.List.{length-set}
 use Rattle.std.proofs.lemmas.Option.{same_Some}
 use Rattle.std.specs.Prelude.{slice_get}
 use Rattle.fleet_base.specs.declared.entries.Entry.{Entry}
+use Rattle.fleet_base.specs.declared.limits.TheConstants.{MAX_COUNT}
 use Rattle.fleet_base.specs.declared.numbers.CellNo.{CellNo}
 use Rattle.fleet_base.specs.declared.numbers.ClaimNo.{ClaimNo}
 use Rattle.fleet_base.specs.declared.numbers.Event.{Event}
@@ -18,7 +19,7 @@ use Rattle.fleet_model.proofs.GoodMerge.{merge_good}
 use Rattle.fleet_model.proofs.Accepted.{accepts}
 use Rattle.fleet_model.proofs.StepCounts.{steps_few}
 use Rattle.fleet_model.proofs.Withdraw.{withdrawn_good, withdrawn_end}
-use Rattle.fleet_model.proofs.Changes.{Change, Grew, Kept, Dropped, Cut, Did, changed, CanChange, Accepts, changed_count, changed_cap, changed_site}
+use Rattle.fleet_model.proofs.Changes.{Change, Grew, Kept, Dropped, Cut, Did, changed, CanChange, Accepts, changed_count, changed_cap, changed_first, changed_site}
 use Rattle.fleet_model.proofs.Pending.{pending_cases}
 use Rattle.fleet_model.proofs.Orders as orders
 
@@ -77,14 +78,18 @@ changed_numbers s is_site good r Dropped can = let old = good.numbers in omega a
 changed_numbers s is_site good r Cut can = let old = good.numbers in omega arith
 changed_numbers s is_site good r (Did e) can = let old = good.numbers in omega arith
 
--- a change that can be made and has room keeps a state good
-pub changed_good : (s : State) → IsSite s.fleet.site → IsGood s → (r : ℕ) (c : Change) → CanChange s r c → s.count + 1 + owed (changed s r c) ≤ s.cap → IsGood (changed s r c)
-changed_good s is_site good r c can room = record {
+-- a change that can be made and has room, in the segment of this base, keeps a state good
+pub changed_good : (s : State) → IsSite s.fleet.site → IsGood s → (r : ℕ) (c : Change) (base : ℕ) → CanChange s r c → base ≤ s.count → s.count + 1 + owed (changed s r c) ≤ base + s.cap → s.count + 1 + owed (changed s r c) ≤ MAX_COUNT
+    → IsGood (record (changed s r c) { base = base })
+changed_good s is_site good r c base can begun room total = record {
   plan = changed_plan s is_site good r c can;
   places = changed_places s good r c;
   routes = changed_routes s good r c can;
+  first = rw (changed_first s r c) good.first;
   numbers = rw (changed_count s r c) (changed_numbers s is_site good r c can);
+  base = rw (changed_count s r c) (omega (arith, begun));
   room = rw (changed_count s r c, changed_cap s r c) room;
+  total = rw (changed_count s r c) total;
 }
 
 -- what an accepted call of an entry did
@@ -95,7 +100,7 @@ accepts_at s entry is_site good h = accepts s entry.robot.0 (call_of entry.act) 
 pub turn_good : (s : State) (entry : Entry) → IsSite s.fleet.site → IsGood s → (turn_at s entry).entry ≡ Some entry → IsGood (turn_at s entry).after × IsSite (turn_at s entry).after.fleet.site
 turn_good s entry is_site good h =
     let a = accepts_at s entry is_site good h in (
-      subst IsGood (sym a.after_is) (changed_good s is_site good entry.robot.0 a.change a.can a.room),
+      subst IsGood (sym a.after_is) (changed_good s is_site good entry.robot.0 a.change a.base a.can a.begun a.room a.total),
       subst (λ t. IsSite t.fleet.site) (sym a.after_is) (subst IsSite (sym (changed_site s entry.robot.0 a.change)) is_site),
     )
 
@@ -120,8 +125,11 @@ opening_good site starts pending next cap h = record {
   };
   places = h.places;
   routes = h.routes;
+  first = h.bounded;
   numbers = omega arith;
+  base = omega arith;
   room = (let r = h.room in omega arith);
+  total = (let r = h.total in omega arith);
 }
   where
     none : (o : Option CellNo) → AreSteps site o []

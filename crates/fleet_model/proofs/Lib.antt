@@ -36,6 +36,7 @@ pub mod LeastRoutes
 pub mod StepCounts
 pub mod Detours
 pub mod Pending
+pub mod Segments
 pub mod Changes
 pub mod Accepted
 pub mod GoodStates
@@ -48,3 +49,9 @@ pub mod Tables
 pub mod Holdings
 pub mod Room
 pub mod Counts
+pub mod Pasts
+pub mod PastTurns
+pub mod Recounts
+pub mod Settled
+pub mod StandingAlone
+pub mod Marks

@@ -108,7 +108,7 @@ module _ (s : State) (entry : Entry) (is_site : IsSite s.fleet.site) (good : IsG
   pub names_cycle : (route : List CellNo) (cycle : List RobotNo) → entry.act ≡ Deferred route cycle → cycle ≡ robots_of (cycle_of (turn_at s entry).after entry.robot.0)
   names_cycle route cycle e =
       let k = kept_as route cycle e in
-      k.names ∙ ap (λ n. robots_of (cycle_of n entry.robot.0)) (sym (known.after_is ∙ ap (λ c. changed s entry.robot.0 c) k.is))
+      k.names ∙ ap (λ n. robots_of (cycle_of n entry.robot.0)) (sym (known.after_is ∙ ap (λ c. record (changed s entry.robot.0 c) { base = known.base }) k.is))
 
   -- behind the entry each robot has its place for a pending route
   places_after : length (turn_at s entry).after.pending ≡ length (turn_at s entry).after.fleet.starts
@@ -119,7 +119,7 @@ module _ (s : State) (entry : Entry) (is_site : IsSite s.fleet.site) (good : IsG
   sound_entry = record {
     allows = λ m order allowed.
         let g = merge_grew s entry.robot.0 known.change entry.act known.tells m in
-        subst (λ n. IsAllowed n order) (ap (λ n. n.fleet) (sym (known.after_is ∙ ap (λ c. changed s entry.robot.0 c) g.1))) (allowed_still s.fleet entry.robot.0 g.0 order good.plan allowed);
+        subst (λ n. IsAllowed n order) (ap (λ n. n.fleet) (sym (known.after_is ∙ ap (λ c. record (changed s entry.robot.0 c) { base = known.base }) g.1))) (allowed_still s.fleet entry.robot.0 g.0 order good.plan allowed);
     merges = λ route first e.
         let can = merged_grew s entry.robot.0 known.change route first known.can (tells_as (Merged route first) e) in
         unblocked_safe s.fleet entry.robot.0 route is_site good.plan can.0.0 can.0.1 can.1 can.2;

@@ -20,7 +20,7 @@ use Rattle.fleet_model.specs.Plans.{end_of, removable_tail, withdrawn}
 use Rattle.fleet_model.specs.Routes.{leads_to}
 use Rattle.fleet_model.specs.Deferral.{is_shut_to}
 use Rattle.fleet_model.specs.States.{State, is_robot, pending_route, block_of}
-use Rattle.fleet_model.specs.Calls.{Step, unless, unless_refused, propose_refusals, propose_outcome, retry_refusals, cancel_refusals, withdraw_refusals, replan, replan_refusals, report_refusals, next_event, reported, accepted, deferring, with_route, moved, span_of, first_of, detour_of, Call, Propose, Retry, Cancel, Withdraw, Replan, Report, LookAt, look_of, turn, entries_of, after_calls}
+use Rattle.fleet_model.specs.Calls.{Step, unless, unless_refused, propose_refusals, propose_outcome, retry_refusals, cancel_refusals, withdraw_refusals, replan, replan_refusals, report_refusals, next_event, reported, accepted, deferring, in_segment, merge_growth, with_route, moved, span_of, first_of, detour_of, Call, Propose, Retry, Cancel, Withdraw, Replan, Report, LookAt, look_of, turn, entries_of, after_calls}
 use Rattle.fleet_model.specs.Good.{IsGood}
 use Rattle.fleet_model.specs.Journals.{last_of, call_of, turn_at, IsJournal, state_after}
 use Rattle.fleet_model.proofs.Options.{when_none}
@@ -51,12 +51,12 @@ proposal_told s r cells None entry h = let t = told r (Merged cells (first_of s)
 proposal_told s r cells (Some block) entry h = let t = told r (Deferred cells block.cycle) entry h in (t.0, ap call_of t.1)
 
 -- where no value is there, none is first
-all_none_first : {A : Type 0} (os : List (Option A)) → AllNone os → first_some os ≡ None
+pub all_none_first : {A : Type 0} (os : List (Option A)) → AllNone os → first_some os ≡ None
 all_none_first [] h = refl
 all_none_first (o ∷ os) h = ap (λ x. first_some (x ∷ os)) h.0 ∙ all_none_first os h.1
 
 -- a step that no refusal fits is taken
-unless_none : {A E : Type 0} (refusals : List (Option E)) (s : State) (step : Step A E) → AllNone refusals → unless refusals s step ≡ step
+pub unless_none : {A E : Type 0} (refusals : List (Option E)) (s : State) (step : Step A E) → AllNone refusals → unless refusals s step ≡ step
 unless_none refusals s step h = ap (λ o. unless_refused o s step) (all_none_first refusals h)
 
 -- a goal that the end isn't in has another last cell on the way to it
@@ -81,7 +81,7 @@ replan_to_last s r goal entry is_site h = (p.route, p.robot, p.act, there_is ∙
     last = has_cell (last_of p.route)
 
     done : List CellNo → Step Span ReplanRefused
-    done way = accepted (span_of s way) r (Replanned way (first_of s)) (with_route s r way)
+    done way = accepted (span_of s way) r (Replanned way (first_of s)) (in_segment s (merge_growth s way) (with_route s r way))
 
     away : last (end_of s.fleet r) ≡ false
     away = last_away goal (is_shut_to s.fleet r) p.route (end_of s.fleet r) (detour_least s.fleet r goal is_site p.route p.found).leads (when_none (goal (end_of s.fleet r)) replan_refused.AtGoal p.none.1.1.0)
@@ -100,7 +100,7 @@ own_call s r (Propose cells) entry is_site h =
     let block = block_of (deferring s r cells) r cells in
     let t = proposal_told s r cells block entry (unless_accepted (propose_refusals s r cells block) s (propose_outcome s r cells block) entry h).told in
     own_same s r (Propose cells) entry h t.0 t.1
-own_call s r Retry entry is_site h = let t = unless_told (retry_refusals s r (pending_route s r)) s (span_of s (pending_route s r)) r (Retried (first_of s)) (with_route s r (pending_route s r)) entry h in own_same s r Retry entry h t.0 (ap call_of t.1)
+own_call s r Retry entry is_site h = let t = unless_told (retry_refusals s r (pending_route s r)) s (span_of s (pending_route s r)) r (Retried (first_of s)) (in_segment s (merge_growth s (pending_route s r)) (with_route s r (pending_route s r))) entry h in own_same s r Retry entry h t.0 (ap call_of t.1)
 own_call s r Cancel entry is_site h = let t = unless_told (cancel_refusals s r) s nothing r Canceled (moved s s.fleet r None) entry h in own_same s r Cancel entry h t.0 (ap call_of t.1)
 own_call s r Withdraw entry is_site h =
     let tail = removable_tail s.fleet r in
@@ -141,7 +141,7 @@ same_after s r (Propose cells) h =
     let block = block_of (deferring s r cells) r cells in
     let e = proposal_entry s r cells block in
     unless_same (propose_refusals s r cells block) s (propose_outcome s r cells block) e.0 e.1 h
-same_after s r Retry h = unless_same (retry_refusals s r (pending_route s r)) s (accepted (span_of s (pending_route s r)) r (Retried (first_of s)) (with_route s r (pending_route s r))) (record { robot = record { 0 = r }; act = Retried (first_of s) }) refl h
+same_after s r Retry h = unless_same (retry_refusals s r (pending_route s r)) s (accepted (span_of s (pending_route s r)) r (Retried (first_of s)) (in_segment s (merge_growth s (pending_route s r)) (with_route s r (pending_route s r)))) (record { robot = record { 0 = r }; act = Retried (first_of s) }) refl h
 same_after s r Cancel h = unless_same (cancel_refusals s r) s (accepted nothing r Canceled (moved s s.fleet r None)) (record { robot = record { 0 = r }; act = Canceled }) refl h
 same_after s r Withdraw h =
     let tail = removable_tail s.fleet r in
@@ -151,7 +151,7 @@ same_after s r Withdraw h =
 same_after s r (Replan cells) h =
     let detour = detour_of s.fleet r (has_cell cells) in
     let route = unwrap_or detour [] in
-    unless_same (replan_refusals s r (has_cell cells) detour) s (accepted (span_of s route) r (Replanned route (first_of s)) (with_route s r route)) (record { robot = record { 0 = r }; act = Replanned route (first_of s) }) refl h
+    unless_same (replan_refusals s r (has_cell cells) detour) s (accepted (span_of s route) r (Replanned route (first_of s)) (in_segment s (merge_growth s route) (with_route s r route))) (record { robot = record { 0 = r }; act = Replanned route (first_of s) }) refl h
 same_after s r (Report n) h =
     let next = next_event s.fleet r in
     unless_same (report_refusals s r n next) s (accepted nothing r (Reported n) (record s { fleet = reported s.fleet next; count = s.count + 1 })) (record { robot = record { 0 = r }; act = Reported n }) refl h

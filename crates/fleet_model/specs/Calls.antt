@@ -35,7 +35,7 @@ use Rattle.fleet_model.specs.Sites.{Site, cell_count, is_linked, steps}
 use Rattle.fleet_model.specs.Plans.{Fleet, unfinished, own, awaited, latest, cell_of, end_of, merged, removable_tail, withdrawn}
 use Rattle.fleet_model.specs.Routes.{least_route}
 use Rattle.fleet_model.specs.Deferral.{is_shut_to}
-use Rattle.fleet_model.specs.States.{State, is_robot, pending_of, pending_route, is_full, block_of}
+use Rattle.fleet_model.specs.States.{State, is_robot, pending_of, pending_route, is_full, base_behind, block_of}
 
 -- what a call gives: its answer, the entry that it adds to the journal, and the state that it leaves
 pub record Step (A E : Type 0) : Type 0 where
@@ -57,7 +57,11 @@ accepted a r act after = record { answer = Ok a; entry = Some (record { robot = 
 
 -- one more accepted call: this plan, and this pending route of robot r
 abbrev pub moved : State → Fleet → ℕ → Option (List CellNo) → State
-moved s fleet r route = record { fleet = fleet; pending = slice_set s.pending r route; cap = s.cap; count = s.count + 1 }
+moved s fleet r route = record { fleet = fleet; pending = slice_set s.pending r route; cap = s.cap; count = s.count + 1; base = s.base }
+
+-- the state that an outcome leaves, by which entries and what is owed grew by so much, in the segment that has room for it
+abbrev pub in_segment : State → ℕ → State → State
+in_segment s growth after = record after { base = base_behind s growth }
 
 -- the state with the route of robot r in the plan, and no route of it pending
 abbrev pub with_route : State → ℕ → List CellNo → State
@@ -111,8 +115,10 @@ propose_refusals s r cells block =
     ∷ []
 
 abbrev pub propose_outcome : State → ℕ → List CellNo → Option Block → Step Proposed ProposeRefused
-propose_outcome s r cells None = accepted (proposed.Merged (span_of s cells)) r (act.Merged cells (first_of s)) (with_route s r cells)
-propose_outcome s r cells (Some block) = accepted (proposed.Deferred block) r (act.Deferred cells block.cycle) (deferring s r cells)
+propose_outcome s r cells None =
+    accepted (proposed.Merged (span_of s cells)) r (act.Merged cells (first_of s)) (in_segment s (propose_growth s cells None) (with_route s r cells))
+propose_outcome s r cells (Some block) =
+    accepted (proposed.Deferred block) r (act.Deferred cells block.cycle) (in_segment s (propose_growth s cells (Some block)) (deferring s r cells))
 
 -- robot r proposes a route: without a blocker it is merged, else it is pending
 abbrev pub propose : State → ℕ → List CellNo → Step Proposed ProposeRefused
@@ -120,19 +126,25 @@ propose s r cells =
     let block = block_of (deferring s r cells) r cells in
     unless (propose_refusals s r cells block) s (propose_outcome s r cells block)
 
+-- a pending route that is merged
+
+abbrev pub merge_growth : State → List CellNo → ℕ
+merge_growth s route = length (steps s.fleet.site route)
+
 abbrev pub retry_refusals : State → ℕ → List CellNo → List (Option RetryRefused)
 retry_refusals s r route =
     when (not (is_robot s r)) retry_refused.UnknownRobot
     ∷ when (is_none (pending_of s r)) retry_refused.NoPending
     ∷ option_map (λ block. retry_refused.StillDeferred block) (block_of s r route)
-    ∷ when (is_full s (length (steps s.fleet.site route))) retry_refused.Full
+    ∷ when (is_full s (merge_growth s route)) retry_refused.Full
     ∷ []
 
 -- robot r tries its pending route again
 abbrev pub retry : State → ℕ → Step Span RetryRefused
 retry s r =
     let route = pending_route s r in
-    unless (retry_refusals s r route) s (accepted (span_of s route) r (act.Retried (first_of s)) (with_route s r route))
+    unless (retry_refusals s r route)
+    s (accepted (span_of s route) r (act.Retried (first_of s)) (in_segment s (merge_growth s route) (with_route s r route)))
 
 abbrev pub cancel_refusals : State → ℕ → List (Option CancelRefused)
 cancel_refusals s r =
@@ -168,7 +180,7 @@ replan_refusals s r goal detour =
     ∷ when (is_none (pending_of s r)) replan_refused.NoPending
     ∷ when (goal (end_of s.fleet r)) replan_refused.AtGoal
     ∷ when (is_none detour) replan_refused.NoDetour
-    ∷ when (is_full s (length (steps s.fleet.site (unwrap_or detour [])))) replan_refused.Full
+    ∷ when (is_full s (merge_growth s (unwrap_or detour []))) replan_refused.Full
     ∷ []
 
 -- robot r replaces its pending route by the detour to a goal
@@ -177,7 +189,7 @@ replan s r goal =
     let detour = detour_of s.fleet r goal in
     let route = unwrap_or detour [] in
     unless (replan_refusals s r goal detour)
-    s (accepted (span_of s route) r (act.Replanned route (first_of s)) (with_route s r route))
+    s (accepted (span_of s route) r (act.Replanned route (first_of s)) (in_segment s (merge_growth s route) (with_route s r route)))
 
 -- the first unfinished event of robot r
 abbrev pub next_event : Fleet → ℕ → Option Event

@@ -1,5 +1,5 @@
 -- Words for small runs: robots, cells, the sites of two examples, calls, answers, and what a state shows.
-use Rattle.std.specs.Prelude.{ℕ, ◌+◌, ◌-◌, Bool, true, ◌&&◌, ◌==◌, List, [], ◌∷◌, ◌++◌, map, length, replicate, Option, Ok, Err}
+use Rattle.std.specs.Prelude.{ℕ, ◌+◌, ◌-◌, Bool, true, ◌&&◌, ◌==◌, List, [], ◌∷◌, ◌++◌, map, length, replicate, Option, None, Ok, Err}
 use Rattle.std.specs.List.{range_with_len, flat_map, list_any}
 use Rattle.fleet_base.specs.Lists.{robots_of}
 use Rattle.fleet_base.specs.declared.answers.Block.{Block}
@@ -8,6 +8,7 @@ use Rattle.fleet_base.specs.declared.answers.ReportRefused.TheVariants as report
 use Rattle.fleet_base.specs.declared.answers.RetryRefused.TheVariants as retry_refused
 use Rattle.fleet_base.specs.declared.entries.Act.{Act}
 use Rattle.fleet_base.specs.declared.entries.Entry.{Entry}
+use Rattle.fleet_base.specs.declared.marks.Mark.{Mark}
 use Rattle.fleet_base.specs.declared.numbers.CellNo.{CellNo}
 use Rattle.fleet_base.specs.declared.numbers.ClaimGroup.{ClaimGroup}
 use Rattle.fleet_base.specs.declared.numbers.ClaimNo.{ClaimNo}
@@ -22,7 +23,7 @@ use Rattle.fleet_model.specs.Sites.{Site}
 use Rattle.fleet_model.specs.Replays.{opening, replay, held_claims}
 use Rattle.fleet_model.specs.Plans.{unfinished, awaited, cell_of}
 use Rattle.fleet_model.specs.Routes.{least_route}
-use Rattle.fleet_model.specs.States.{State, start_state}
+use Rattle.fleet_model.specs.States.{State, opening_state, start_state}
 use Rattle.fleet_model.specs.Calls.{Call, Propose, Retry, Cancel, Withdraw, Replan, Report, LookAt, Answer, Proposes, Retries, Cancels, Withdraws, Replans, Reports}
 
 -- Numbers.
@@ -82,6 +83,10 @@ event n = record { 0 = n }
 -- the events from the first to the last
 abbrev pub span : ℕ → ℕ → Span
 span first last = record { first = event first; last = event last }
+
+-- the mark with so many entries before it, and this next number
+abbrev pub mark : ℕ → ℕ → Mark
+mark before next = record { before = before; next = event next }
 
 -- Sites.
 
@@ -287,9 +292,9 @@ there_and_back = proposes r1 (a ∷ b ∷ []) ∷ proposes r2 (c ∷ b ∷ []) �
 abbrev pub twice_through_b : List (ℕ × Call)
 twice_through_b = proposes r1 (a ∷ b ∷ a ∷ []) ∷ proposes r1 (a ∷ b ∷ a ∷ []) ∷ proposes r2 (c ∷ b ∷ []) ∷ []
 
--- r1 in a is kept from b by r2, which then drives to c; r1 retries
-abbrev pub b_left : List (ℕ × Call)
-b_left = proposes r1 (a ∷ b ∷ []) ∷ proposes r2 (b ∷ c ∷ []) ∷ reports_all r2 1 3 ++ retries r1 ∷ []
+-- r1 in a is kept from b by r2, which then drives to c
+abbrev pub b_leaving : List (ℕ × Call)
+b_leaving = proposes r1 (a ∷ b ∷ []) ∷ proposes r2 (b ∷ c ∷ []) ∷ []
 
 -- the bypass with r1 in a, r2 in b and r3 in d
 abbrev pub three_at_bypass : State
@@ -314,6 +319,18 @@ by_the_detour = past_each_other ++ replans r1 b ∷ replans r1 d ∷ retries r2 
 -- the junction with r1 alone, in a
 abbrev pub one_at_junction : State
 one_at_junction = fleet_on junction (a ∷ [])
+
+-- r1 in b drives back to a
+abbrev pub home_again : List (ℕ × Call)
+home_again = proposes r1 (b ∷ a ∷ []) ∷ reports_all r1 4 6
+
+-- r1 drives from a to b and back to a
+abbrev pub there_and_home : List (ℕ × Call)
+there_and_home = proposes r1 (a ∷ b ∷ []) ∷ reports_all r1 1 3 ++ home_again
+
+-- r1 stands in b, with no pending route; the next number is 4, and the cap 4
+abbrev pub at_checkpoint : State
+at_checkpoint = opening_state junction (cells (b ∷ [])) (None ∷ []) 4 4
 
 -- r1 proposes from a by b to c, acquires b and withdraws
 abbrev pub step_begun : List (ℕ × Call)

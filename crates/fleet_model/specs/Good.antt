@@ -2,6 +2,7 @@
 use Rattle.std.specs.Prelude.{◌≡◌, ◌≢◌, ℕ, ◌+◌, ◌*◌, ◌<◌, ◌≤◌, true, ◌⊎◌, List, [], ◌∷◌, Option, Some, length, slice_get}
 use Rattle.std.specs.List.{filter}
 use Rattle.std.specs.Option.{is_some}
+use Rattle.fleet_base.specs.declared.limits.TheConstants.{MAX_COUNT, MAX_FIRST}
 use Rattle.fleet_base.specs.declared.numbers.CellNo.{CellNo}
 use Rattle.fleet_base.specs.declared.numbers.ClaimNo.{ClaimNo}
 use Rattle.fleet_base.specs.declared.numbers.Event.{Event}
@@ -42,18 +43,23 @@ pub record IsGoodPlan (m : Fleet) : Type 0 where
   pub finished : IsOrder (IsBehind m.site.groups) m.plan [] m.finished
   pub uses : (r q : ℕ) (c d : ClaimNo) (a b : ℕ) → r ≢ q → in_conflict m.site.groups c d ≡ true → Opens m r c a → Opens m q d b → Closes m.plan r c a b ⊎ Closes m.plan q d b a
 
--- the plan is good; each robot has a place for a pending route, which is legal; and numbers and room keep to their bounds
+-- the plan is good; each robot has a place for a pending route, which is legal; and numbers and room, of the current segment and of the run, keep to their bounds
 pub record IsGood (s : State) : Type 0 where
   pub plan : IsGoodPlan s.fleet
   pub places : length s.pending ≡ length s.fleet.starts
   pub routes : (r : ℕ) (route : List CellNo) → pending_of s r ≡ Some route → IsRoute s.fleet r route
+  pub first : s.fleet.first ≤ MAX_FIRST
   pub numbers : s.fleet.next ≤ s.fleet.first + 7161 * s.count
-  pub room : s.count + owed s ≤ s.cap
+  pub base : s.base ≤ s.count
+  pub room : s.count + owed s ≤ s.base + s.cap
+  pub total : s.count + owed s ≤ MAX_COUNT
 
--- a state may open a run: numbers begin at 1 at least, no two robots start on claims that conflict, each pending route is legal, and there is room for them
+-- a state may open a run: numbers begin at 1 at least and within their bound, no two robots start on claims that conflict, each pending route is legal, and there is room for them
 pub record IsOpening (site : Site) (starts : List CellNo) (pending : List (Option (List CellNo))) (next cap : ℕ) : Type 0 where
   pub first : 1 ≤ next
+  pub bounded : next ≤ MAX_FIRST
   pub apart : (r q : ℕ) (c d : ClaimNo) → r ≢ q → in_conflict site.groups c d ≡ true → (opening site starts r).holds c ≡ true → (opening site starts q).holds d ≡ true → ⊥
   pub places : length pending ≡ length starts
   pub routes : (r : ℕ) (route : List CellNo) → pending_of (opening_state site starts pending next cap) r ≡ Some route → IsRoute (opening_state site starts pending next cap).fleet r route
   pub room : length (filter is_some pending) ≤ cap
+  pub total : length (filter is_some pending) ≤ MAX_COUNT

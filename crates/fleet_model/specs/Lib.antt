@@ -12,4 +12,6 @@ pub mod Good
 pub mod Sound
 pub mod Examples
 pub mod Yard
+pub mod Tracks
 pub mod Tables
+pub mod Segments

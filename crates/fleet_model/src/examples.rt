@@ -11,12 +11,15 @@ ghost use Rattle.fleet_model.specs.Cycles.{cycle_through};
 ghost use Rattle.fleet_model.specs.Deferral.{ends, block_precedes};
 ghost use Rattle.fleet_model.specs.States.{start_state, owed, cycle_of};
 ghost use Rattle.fleet_model.specs.Calls.{answers, entries_of, after_calls, Proposes, Retries, Cancels, Withdraws, Replans, Reports, Looks};
-ghost use Rattle.fleet_model.specs.Examples.{a, b, c, d, e, r1, r2, r3, cell, cells, claim, claims, event, robot, block, junction, bypass, closed_bypass, tunnel, inside, square, fleet_on, route_past, relates};
+ghost use Rattle.fleet_model.specs.Journals.{turn_at};
+ghost use Rattle.fleet_model.specs.Segments.{checkpoint_state, marks};
+ghost use Rattle.fleet_model.specs.Examples.{a, b, c, d, e, r1, r2, r3, cell, cells, claim, claims, event, mark, robot, block, junction, bypass, closed_bypass, tunnel, inside, square, fleet_on, route_past, relates};
 ghost use Rattle.fleet_model.specs.Examples.{proposes, retries, cancels, withdraws, replans, reports, reports_all, looks};
 ghost use Rattle.fleet_model.specs.Examples.{merged_as, deferred_by, retried_as, still_deferred, canceled, withdrawn_to, replanned_as, reported, reported_times, too_early};
 ghost use Rattle.fleet_model.specs.Examples.{acquires, moves, releases, entry, places, holds, waits};
-ghost use Rattle.fleet_model.specs.Examples.{two_at_junction, both_by_b, b_taken_over, there_and_back, twice_through_b, b_left, three_at_bypass, face_to_face, no_way_out, past_each_other, by_the_detour, one_at_junction, step_begun};
+ghost use Rattle.fleet_model.specs.Examples.{two_at_junction, both_by_b, b_taken_over, there_and_back, twice_through_b, b_leaving, there_and_home, at_checkpoint, three_at_bypass, face_to_face, no_way_out, past_each_other, by_the_detour, one_at_junction, home_again, step_begun};
 ghost use Rattle.fleet_model.specs.Yard as yard;
+ghost use Rattle.fleet_model.specs.Tracks as tracks;
 
 use fleet_base::answers::{
     CancelRefused, EventLook, PendingLook, ProposeRefused, ReplanRefused, ReportRefused,
@@ -229,6 +232,18 @@ pub fn one_flow_takes_two_robots()
     ensures r2_holds { holds (after_calls (yard.two_in yard.with_one_flow) yard.both_inside) r2 ≡ claims (yard.c ∷ yard.q ∷ yard.x ∷ []) }
 {}
 
+/// A crossing of a flow and a rest: robots of the flow don't wait for each other, and a robot of the
+/// rest waits for each of them.
+pub fn rest_waits_for_flow()
+    ensures flow { in_conflict tracks.site.groups (claim tracks.flow) (claim tracks.flow) ≡ false }
+    ensures rest { in_conflict tracks.site.groups (claim tracks.flow) (claim tracks.rest) ≡ true }
+    ensures waits { waits (after_calls tracks.three_in tracks.all_through) ≡ (18, 8) ∷ (18, 16) ∷ [] }
+    ensures early { answers tracks.three_in (tracks.all_through ++ reports r3 17 ∷ reports r3 18 ∷ [])
+        ≡ merged_as 1 8 ∷ merged_as 9 16 ∷ merged_as 17 24 ∷ reported ∷ too_early 16 ∷ [] }
+    ensures answers { answers tracks.three_in (tracks.all_through ++ reports r3 17 ∷ reports_all r2 9 16 ++ reports r3 18 ∷ reports_all r1 1 8 ++ reports r3 18 ∷ [])
+        ≡ merged_as 1 8 ∷ merged_as 9 16 ∷ merged_as 17 24 ∷ reported ∷ reported_times 8 ++ too_early 8 ∷ reported_times 8 ++ reported ∷ [] }
+{}
+
 /// Events that another robot's event stands behind can't be withdrawn.
 pub fn awaited_route_stays()
     ensures tail { removable_tail (after_calls two_at_junction both_by_b).fleet r1 ≡ [] }
@@ -292,13 +307,55 @@ pub fn three_is_no_room_for_a_step()
 pub fn deferral_needs_room_for_two()
     ensures one { answers (start_state junction (cells (a ∷ b ∷ [])) 1) (proposes r1 (a ∷ b ∷ []) ∷ []) ≡ Proposes (Err ProposeRefused.Full) ∷ [] }
     ensures two { answers (start_state junction (cells (a ∷ b ∷ [])) 2) (proposes r1 (a ∷ b ∷ []) ∷ cancels r1 ∷ []) ≡ deferred_by b r2 [] ∷ canceled ∷ [] }
-    ensures retry_full { answers (start_state junction (cells (a ∷ b ∷ [])) 8) b_left
-        ≡ deferred_by b r2 [] ∷ merged_as 1 3 ∷ reported_times 3 ++ Retries (Err RetryRefused.Full) ∷ [] }
-    ensures retry { answers (start_state junction (cells (a ∷ b ∷ [])) 9) b_left ≡ deferred_by b r2 [] ∷ merged_as 1 3 ∷ reported_times 3 ++ retried_as 4 6 ∷ [] }
-    ensures replan_full { answers (start_state bypass (cells (b ∷ c ∷ [])) 9) (past_each_other ++ replans r1 d ∷ [])
+    ensures retry_full { answers (start_state junction (cells (a ∷ b ∷ [])) 8) (b_leaving ++ retries r1 ∷ [])
+        ≡ deferred_by b r2 [] ∷ merged_as 1 3 ∷ Retries (Err RetryRefused.Full) ∷ [] }
+    ensures retry { answers (start_state junction (cells (a ∷ b ∷ [])) 9) (b_leaving ++ retries r1 ∷ []) ≡ deferred_by b r2 [] ∷ merged_as 1 3 ∷ retried_as 4 6 ∷ [] }
+    ensures replan_full { answers (start_state bypass (cells (b ∷ c ∷ [])) 7) (past_each_other ++ replans r1 d ∷ [])
         ≡ deferred_by c r2 [] ∷ deferred_by b r1 (r2 ∷ r1 ∷ []) ∷ Replans (Err ReplanRefused.Full) ∷ [] }
-    ensures replan { answers (start_state bypass (cells (b ∷ c ∷ [])) 10) (past_each_other ++ replans r1 d ∷ [])
+    ensures replan { answers (start_state bypass (cells (b ∷ c ∷ [])) 8) (past_each_other ++ replans r1 d ∷ [])
         ≡ deferred_by c r2 [] ∷ deferred_by b r1 (r2 ∷ r1 ∷ []) ∷ replanned_as 1 6 ∷ [] }
+{}
+
+/// Where no event is unfinished, a call that finds no room in the segment opens a new one, if there is
+/// room for it there. While an event is unfinished, it is refused.
+pub fn segments_open()
+    ensures answers { answers (start_state junction (cells (a ∷ [])) 4) there_and_home
+        ≡ merged_as 1 3 ∷ reported_times 3 ++ merged_as 4 6 ∷ reported_times 3 }
+    ensures marks { marks (start_state junction (cells (a ∷ [])) 4) (entries_of (start_state junction (cells (a ∷ [])) 4) there_and_home)
+        ≡ mark 0 1 ∷ mark 4 4 ∷ [] }
+    ensures count { (after_calls (start_state junction (cells (a ∷ [])) 4) there_and_home).count ≡ 8 }
+    ensures base { (after_calls (start_state junction (cells (a ∷ [])) 4) there_and_home).base ≡ 4 }
+    ensures next { (after_calls (start_state junction (cells (a ∷ [])) 4) there_and_home).fleet.next ≡ 7 }
+    ensures unfinished { answers (start_state junction (cells (a ∷ [])) 4) (proposes r1 (a ∷ b ∷ []) ∷ reports_all r1 1 2 ++ proposes r1 (b ∷ a ∷ []) ∷ [])
+        ≡ merged_as 1 3 ∷ reported_times 2 ++ Proposes (Err ProposeRefused.Full) ∷ [] }
+    ensures retry { answers (start_state junction (cells (a ∷ b ∷ [])) 8) (b_leaving ++ reports_all r2 1 3 ++ retries r1 ∷ [])
+        ≡ deferred_by b r2 [] ∷ merged_as 1 3 ∷ reported_times 3 ++ retried_as 4 6 ∷ [] }
+{}
+
+/// A segment that is read alone begins at its checkpoint, with the number that stands there.
+pub fn segments_stand_alone()
+    ensures opening { checkpoint_state (after_calls (start_state junction (cells (a ∷ [])) 4) (proposes r1 (a ∷ b ∷ []) ∷ reports_all r1 1 3)) ≡ at_checkpoint }
+    ensures entries { entries_of at_checkpoint (proposes r1 (b ∷ a ∷ []) ∷ []) ≡ entry r1 (Act.Merged (cells (b ∷ a ∷ [])) (event 4)) ∷ [] }
+    ensures other_number { (turn_at at_checkpoint (entry r1 (Act.Merged (cells (b ∷ a ∷ [])) (event 5)))).entry
+        ≡ Some (entry r1 (Act.Merged (cells (b ∷ a ∷ [])) (event 4))) }
+    ensures count { (after_calls at_checkpoint (proposes r1 (b ∷ a ∷ []) ∷ [])).count ≡ 1 }
+    ensures next { (after_calls at_checkpoint (proposes r1 (b ∷ a ∷ []) ∷ [])).fleet.next ≡ 7 }
+    ensures plan { (after_calls at_checkpoint (proposes r1 (b ∷ a ∷ []) ∷ [])).fleet.plan ≡ acquires 4 r1 a ∷ moves 5 r1 b a ∷ releases 6 r1 b ∷ [] }
+    ensures holds { holds (after_calls at_checkpoint (proposes r1 (b ∷ a ∷ []) ∷ [])) r1 ≡ claims (b ∷ []) }
+{}
+
+/// What the second segment reaches from its checkpoint is what the whole run reaches.
+pub fn second_segment_reaches_the_same()
+    ensures first_checkpoint { checkpoint_state (start_state junction (cells (a ∷ [])) 4) ≡ start_state junction (cells (a ∷ [])) 4 }
+    ensures entries { entries_of (start_state junction (cells (a ∷ [])) 4) there_and_home
+        ≡ entries_of (start_state junction (cells (a ∷ [])) 4) (proposes r1 (a ∷ b ∷ []) ∷ reports_all r1 1 3) ++ entries_of at_checkpoint home_again }
+    ensures marks { marks at_checkpoint (entries_of at_checkpoint home_again) ≡ mark 0 4 ∷ [] }
+    ensures next { (after_calls at_checkpoint home_again).fleet.next ≡ (after_calls (start_state junction (cells (a ∷ [])) 4) there_and_home).fleet.next }
+    ensures places { places (after_calls at_checkpoint home_again) ≡ places (after_calls (start_state junction (cells (a ∷ [])) 4) there_and_home) }
+    ensures ends { ends (after_calls at_checkpoint home_again).fleet ≡ ends (after_calls (start_state junction (cells (a ∷ [])) 4) there_and_home).fleet }
+    ensures holds { holds (after_calls at_checkpoint home_again) r1 ≡ holds (after_calls (start_state junction (cells (a ∷ [])) 4) there_and_home) r1 }
+    ensures left { unfinished (after_calls at_checkpoint home_again).fleet ≡ unfinished (after_calls (start_state junction (cells (a ∷ [])) 4) there_and_home).fleet }
+    ensures pending { (after_calls at_checkpoint home_again).pending ≡ (after_calls (start_state junction (cells (a ∷ [])) 4) there_and_home).pending }
 {}
 
 /// Robots are numbered from 0, so a fleet of one robot has no second one.

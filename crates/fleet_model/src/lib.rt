@@ -9,4 +9,5 @@ pub mod examples;
 pub mod journal_laws;
 pub mod plan_laws;
 pub mod route_laws;
+pub mod segment_laws;
 pub mod table_laws;
