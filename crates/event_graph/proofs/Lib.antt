@@ -4,3 +4,9 @@ pub mod Cuts
 pub mod Whole
 pub mod Uses
 pub mod Deciding
+pub mod Slotted
+pub mod Walks
+pub mod Awaits
+pub mod Owns
+pub mod Storing
+pub mod Tails

@@ -1,2 +1,5 @@
 pub mod Graphs
+pub mod Reaches
+pub mod Stores
+pub mod Stored
 pub mod Example

@@ -6,10 +6,13 @@ ghost use Rattle.fleet_model.specs.Lists.{In};
 ghost use Rattle.fleet_model.specs.Plans.{own, numbered};
 ghost use Rattle.event_graph.specs.Graphs.{IsGraph, IsKnown, AreApart, HasNumber, AtNumber, IsReadyAmong, HasReady, greatest_after, has_waiting, without_number, without_events, tail_of, IsUnawaited, HasSameSetting, IsUnchanged};
 
-use crate::scans::{event_at, greatest, is_ready, is_waited_for};
+use crate::reach::{Reach, reaches};
+use crate::store::{claim_of, compact, find, greatest, is_ready, is_waited_for, own_at};
 use fleet_base::limits::{MAX_CLAIMS, MAX_ROBOTS};
 use fleet_base::numbers::{ClaimGroup, Event, EventNo, Kind, RobotNo};
 use fleet_base::path::NoMemory;
+use number_queues::NumberQueues;
+use slot_chains::SlotChains;
 use std::alloc::Global;
 use std::marker::Model;
 
@@ -17,28 +20,33 @@ use std::marker::Model;
 /// event is kept.
 #[derive(Drop)]
 pub struct EventGraph {
-    robots: u32,
     groups: Vec<ClaimGroup>,
-    kept: Vec<Event>,
+    reaches: Vec<Reach>,
+    slots: Vec<Option<Event>>,
+    robots: NumberQueues,
+    claims: SlotChains,
+    kept: u64,
     next_no: u64,
 }
 
 impl Model for EventGraph {
-    ghost use Rattle.std.specs.Prelude.{◌-◌, vec_len};
+    ghost use Rattle.std.specs.Prelude.{◌-◌, min, length, vec_len};
     ghost use Rattle.std.specs.Vec.{vec_capacity};
-    ghost use Rattle.event_graph.specs.Graphs.{Graph, IsGraph};
+    ghost use Rattle.event_graph.specs.Graphs.{Graph};
+    ghost use Rattle.event_graph.specs.Stores.{events_of};
+    ghost use Rattle.event_graph.specs.Stored.{IsStored};
 
     ghost Value = { Graph };
 
     ghost view = { λ g. record {
-      robots = g.robots;
+      robots = length g.robots.queues;
       groups = g.groups.items;
-      events = g.kept.items;
+      events = events_of g.slots.items;
       next = g.next_no;
-      spare = vec_capacity g.kept - vec_len g.kept;
+      spare = min (vec_capacity g.slots - vec_len g.slots) (min g.robots.spare g.claims.spare);
     } };
 
-    ghost invariant = { λ g. IsGraph g.robots g.groups.items g.kept.items g.next_no };
+    ghost invariant = { λ g. IsStored g.groups.items g.reaches.items g.slots.items g.robots g.claims g.kept g.next_no };
 }
 
 impl EventGraph {
@@ -58,9 +66,12 @@ impl EventGraph {
         ensures next { IfOk result (λ g. g.next ≡ first.0) }
     {
         Ok(EventGraph {
-            robots,
             groups: Vec::from_slice(alloc, groups)?,
-            kept: Vec::new(alloc),
+            reaches: reaches(alloc, groups)?,
+            slots: Vec::new(alloc),
+            robots: NumberQueues::new(alloc, robots)?,
+            claims: SlotChains::new(alloc, groups.len() as u32)?,
+            kept: 0,
             next_no: first.0,
         })
     }
@@ -70,7 +81,14 @@ impl EventGraph {
         requires { robot.0 < self.now.robots }
         ensures { result ≡ slice_get (own robot.0 self.now.events) 0 }
     {
-        self.unfinished(robot, 0)
+        own_at(
+            &self.slots,
+            &self.robots,
+            &self.claims,
+            self.next_no,
+            robot.0,
+            0,
+        )
     }
 
     /// Whether no earlier event of the event's robot is unfinished, and none that it stands behind.
@@ -79,7 +97,15 @@ impl EventGraph {
         ensures { AtNumber self.now.events event
             (λ e. IsTrue result ↔ IsReadyAmong self.now.groups self.now.events e) }
     {
-        is_ready(&self.groups, &self.kept, event_at(&self.kept, event))
+        let (_, event) = find(&self.slots, &self.claims, self.next_no, event);
+        is_ready(
+            &self.groups,
+            &self.reaches,
+            &self.slots,
+            &self.robots,
+            &self.claims,
+            event,
+        )
     }
 
     /// The greatest number of an unfinished event that this one stands behind.
@@ -88,7 +114,14 @@ impl EventGraph {
         ensures { AtNumber self.now.events event
             (λ e. result ≡ greatest_after self.now.groups self.now.events e) }
     {
-        greatest(&self.groups, &self.kept, event_at(&self.kept, event))
+        let (_, event) = find(&self.slots, &self.claims, self.next_no, event);
+        greatest(
+            &self.groups,
+            &self.reaches,
+            &self.slots,
+            &self.claims,
+            event,
+        )
     }
 
     /// The robot's unfinished event at that place, from 0. None where there are no more.
@@ -96,11 +129,14 @@ impl EventGraph {
         requires { robot.0 < self.now.robots }
         ensures { result ≡ slice_get (own robot.0 self.now.events) index }
     {
-        let kept: &[Event] = &self.kept;
-        kept.iter()
-            .filter(|e| e.robot.0 == robot.0)
-            .nth(index as usize)
-            .copied()
+        own_at(
+            &self.slots,
+            &self.robots,
+            &self.claims,
+            self.next_no,
+            robot.0,
+            index,
+        )
     }
 
     /// How many unfinished events the robot has.
@@ -108,8 +144,7 @@ impl EventGraph {
         requires { robot.0 < self.now.robots }
         ensures { result ≡ length (own robot.0 self.now.events) }
     {
-        let kept: &[Event] = &self.kept;
-        kept.iter().filter(|e| e.robot.0 == robot.0).count() as u32
+        self.robots.len(robot.0)
     }
 
     /// Whether an unfinished event of another robot stands behind this one.
@@ -118,7 +153,14 @@ impl EventGraph {
         ensures { AtNumber self.now.events event
             (λ f. result ≡ has_waiting self.now.groups self.now.events f) }
     {
-        is_waited_for(&self.groups, &self.kept, event_at(&self.kept, event))
+        let (_, event) = find(&self.slots, &self.claims, self.next_no, event);
+        is_waited_for(
+            &self.groups,
+            &self.reaches,
+            &self.slots,
+            &self.claims,
+            event,
+        )
     }
 
     /// The number of stored events, which are the unfinished ones. What every graph keeps is said
@@ -127,7 +169,7 @@ impl EventGraph {
         ensures count { result ≡ length self.now.events }
         ensures graph { IsGraph self.now.robots self.now.groups self.now.events self.now.next }
     {
-        self.kept.len() as u64
+        self.kept
     }
 
     /// The number of the next event that is appended.
@@ -144,7 +186,11 @@ impl EventGraph {
         ensures next { self.new.next ≡ self.old.next }
         ensures setting { HasSameSetting self.old self.new }
     {
-        self.kept.retain(|e| e.no.0 != event.0);
+        let (slot, done) = find(&self.slots, &self.claims, self.next_no, event);
+        self.slots[slot as usize] = None;
+        self.robots.pop_front(done.robot.0);
+        self.claims.remove(slot);
+        self.kept -= 1;
     }
 
     /// Makes room for as many events as these. Where no memory is left the graph is as before.
@@ -152,8 +198,8 @@ impl EventGraph {
         ensures room { OnOk result (length kinds.now ≤ self.new.spare) }
         ensures unchanged { IsUnchanged self.old self.new }
     {
-        self.kept.reserve(kinds.len())?;
-        Ok(())
+        self.leave_out_empty(kinds.len());
+        self.make_room(kinds.len())
     }
 
     /// Adds what the robot does at the end, under consecutive numbers from the next number on, and
@@ -174,13 +220,16 @@ impl EventGraph {
     {
         let first = self.next_no;
         for kind in kinds {
-            self.kept.push_reserved(Event {
+            self.slots.push_reserved(Some(Event {
                 no: EventNo(self.next_no),
                 robot,
                 kind: *kind,
-            });
+            }));
+            self.robots.push(robot.0, self.next_no);
+            self.claims.push(claim_of(*kind));
             self.next_no += 1;
         }
+        self.kept += kinds.len() as u64;
         EventNo(first)
     }
 
@@ -195,11 +244,39 @@ impl EventGraph {
         ensures next { self.new.next ≡ self.old.next }
         ensures setting { HasSameSetting self.old self.new }
     {
-        let place = self.left(robot) - count;
-        let Some(first) = self.unfinished(robot, place) else {
-            return;
+        for _gone in 0..count {
+            let Some(number) = self.robots.pop_back(robot.0) else {
+                return;
+            };
+            let (slot, _) = find(&self.slots, &self.claims, self.next_no, EventNo(number));
+            self.slots[slot as usize] = None;
+            self.claims.remove(slot);
+            self.kept -= 1;
+        }
+    }
+
+    /// Leaves out the empty slots, where there is no room for so many more and most are empty.
+    fn leave_out_empty(&mut self, more: usize)
+        ensures { IsUnchanged self.old self.new }
+    {
+        let slots = self.slots.len();
+        let room = self.slots.capacity() - slots;
+        if room < more && slots as u64 / 2 > self.kept {
+            compact(&mut self.slots, &mut self.claims);
+        }
+    }
+
+    /// Makes room for so many more events.
+    fn make_room(&mut self, more: usize) -> Result<(), NoMemory>
+        ensures room { OnOk result (more ≤ self.new.spare) }
+        ensures unchanged { IsUnchanged self.old self.new }
+    {
+        let Ok(more) = u32::try_from(more) else {
+            return Err(NoMemory);
         };
-        self.kept
-            .retain(|e| !(e.robot.0 == robot.0 && e.no.0 >= first.no.0));
+        self.slots.reserve(more as usize)?;
+        self.robots.reserve(more)?;
+        self.claims.reserve(more)?;
+        Ok(())
     }
 }

@@ -3,6 +3,7 @@
 
 pub mod graph;
 pub mod laws;
-mod scans;
+mod reach;
+mod store;
 #[cfg(test)]
 mod tests;

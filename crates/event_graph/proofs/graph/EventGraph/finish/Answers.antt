@@ -1,15 +1,21 @@
-use Rattle.std.proofs.Common.{◌≡◌, ◌==◌, not, rules}
-use Rattle.std.proofs.lemmas.Fn.{filter_same}
-use Rattle.fleet_base.specs.declared.numbers.Event.{Event}
-use Rattle.event_graph.specs.Graphs.{without_number}
-use Rattle.event_graph.proofs.Changes.{finish_good}
+use Rattle.std.proofs.Common.{◌≡◌, ◌∙◌, ap, length}
+use Rattle.std.proofs.lemmas.List.{length-set}
+use Rattle.fleet_base.specs.declared.numbers.EventNo.{EventNo}
+use Rattle.event_graph.proofs.Slotted.{emptied, slot_In}
+use Rattle.event_graph.proofs.Storing.{finished}
 use Rattle.event_graph.proofs.graph.EventGraph.finish.Goals as goal
 
-kept : (c : goal.After-retain) → c.retain.new.self.items ≡ without_number c.self.inside.kept.items c.args.event
-kept c = filter_same _ (λ (x : Event). not (x.no.0 == c.args.event.0)) _ (λ x b g r. search rules) _ _ c.retain.ensures.filtered
+pub pop_front-requires : goal.pop_front-requires
+pop_front-requires c =
+    let slot = rw c.deref.ensures.value at c.find-slot.ensures.slot in
+    c.self.invariant.graph.robot c.find-slot.result.1 (slot_In c.self.inside.slots.items c.find-slot.result.0 c.find-slot.result.1 slot)
 
 pub invariant_of-self : goal.invariant_of-self
-invariant_of-self c = rw (kept c) (finish_good _ _ _ _ c.self.invariant c.args.event (rw (← c.self.view_is) at c.requires))
+invariant_of-self c =
+    let slot = rw c.deref.ensures.value at c.find-slot.ensures.slot in
+    finished _ _ _ c.self.inside.robots c.pop_front.new.self c.self.inside.claims c.remove.new.self _ _ c.self.invariant (ap length c.pop_front.ensures.queues ∙ length-set _ _ _) c.remove.ensures.chains c.args.event c.find-slot.result.0 c.find-slot.result.1 slot c.find-slot.ensures.number (rw (← c.self.view_is) at c.requires) c.pop_front.ensures.queues c.remove.ensures.keys
 
 pub returns-clause-events : goal.returns-clause-events
-returns-clause-events c = rw (← c.self.view_is) (kept c)
+returns-clause-events c =
+    let slot = rw c.deref.ensures.value at c.find-slot.ensures.slot in
+    rw (← c.self.view_is) (emptied c.self.inside.slots.items 0 c.self.invariant.graph.ascends c.find-slot.result.0 c.find-slot.result.1 c.args.event slot (ap (λ (x : EventNo). x.0) c.find-slot.ensures.number))

@@ -1,0 +1,11 @@
+use Rattle.std.proofs.Common.{◌≡◌}
+use Rattle.fleet_base.specs.declared.numbers.Event.{Event}
+use Rattle.event_graph.specs.Graphs.{has_waiting}
+use Rattle.event_graph.proofs.Scanning.{at_one}
+use Rattle.plain_graph.proofs.graph.PlainGraph.awaited.Goals as goal
+
+pub returns : goal.returns
+returns c =
+    let among = rw c.deref-3.ensures.value at c.event_at.ensures.among in
+    let answer = rw (c.deref.ensures.value, c.deref-2.ensures.value) at c.is_waited_for.ensures in
+    rw (← c.self.view_is) (at_one (λ (e : Event). c.is_waited_for.result ≡ has_waiting c.self.inside.groups.items c.self.inside.kept.items e) 0 c.self.inside.kept.items c.args.event c.event_at.result c.self.invariant.ascends among c.event_at.ensures.number answer)
