@@ -25,21 +25,7 @@ use Rattle.fleet_model.proofs.Tests.{any_In, In_any}
 use Rattle.deferral.specs.declared.pending.Pending.{Pending}
 use Rattle.deferral.specs.Backlogs.{Backlog, pending_of, end_claims, is_needed, is_kept, needed_claims, kept_claims, blocker_count, is_deferred_on}
 use Rattle.deferral.specs.Laws.{Shows, AreBlockers}
-use Rattle.deferral.proofs.Relations.{deferred_by}
-
--- a claim that conflicts with another has a group
-conflict_within : (groups : List ClaimGroup) (c d : ClaimNo) → in_conflict groups c d ≡ true → c.0 < length groups
-unfolding in_conflict
-conflict_within groups c d h = elim (cases_lt c.0 (length groups)) [
-  | inl within ↦ within
-  | inr past ↦ absurd (both_ways false refl (ap (λ g. exclude g (slice_get groups d.0) (c.0 == d.0)) (sym (slice_get_past groups c.0 past)) ∙ h))
-]
-
--- a claim that is kept has a group
-kept_within : (groups : List ClaimGroup) (end : List ClaimNo) (c : ℕ) → is_kept groups end c ≡ true → c < length groups
-kept_within groups end c h =
-    let d = any_In (λ (d : ClaimNo). in_conflict groups (record { 0 = c }) d) end h in
-    conflict_within groups (record { 0 = c }) d.0 d.2
+use Rattle.deferral.proofs.Relations.{kept_within}
 
 -- what is in the list of kept claims is needed and kept
 pub kept_parts : (groups : List ClaimGroup) (pending : Option Pending) (end : List ClaimNo) (c : ℕ) → In c (kept_claims groups pending end) → (is_needed pending c ≡ true) × (is_kept groups end c ≡ true)
@@ -92,8 +78,12 @@ same_bool false false f g = refl
 same_bool true false f g = sym (f refl)
 same_bool false true f g = g refl
 
+either : (t : Bool) (n : ℕ) → nat_lt 0 (cond t 0 n) ≡ (not t && nat_lt 0 n)
+either true n = refl
+either false n = refl
+
 -- the claims of an end that may be there keep what the end keeps
-kept_end : (site : Site) (o : Option CellNo) (c : ClaimNo) → is_kept site.groups (unwrap_or (option_map (footprint_of site) o) []) c.0 ≡ is_kept_by site c o
+pub kept_end : (site : Site) (o : Option CellNo) (c : ClaimNo) → is_kept site.groups (unwrap_or (option_map (footprint_of site) o) []) c.0 ≡ is_kept_by site c o
 kept_end site None c = refl
 kept_end site (Some a) c = refl
 
@@ -118,7 +108,7 @@ module _ (b : Backlog) (s : State) (shows : Shows b s) (r q : ℕ) where
   -- the same by both
   pub deferred_shown : is_deferred_on b r q ≡ model.is_deferred_on s r q
   deferred_shown =
-      deferred_by b.groups (pending_of b r) (end_claims b q) r q
+      either (q == r) (length (kept_claims b.groups (pending_of b r) (end_claims b q)))
       ∙ ap (λ t. not (q == r) && t) (same_bool (nat_lt 0 (length (kept_claims b.groups (pending_of b r) (end_claims b q)))) (list_any kept (needs s.fleet.site (pending_route s r))) forth back)
     where
       kept : ClaimNo → Bool

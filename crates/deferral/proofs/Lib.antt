@@ -1,4 +1,9 @@
-pub mod KeptCounts
-pub mod Renewals
-pub mod Relations
+pub mod Blanks
+pub mod Blocks
 pub mod FleetStates
+pub mod Passing
+pub mod Relations
+pub mod Remarks
+pub mod SiteBlockers
+pub mod Tallied
+pub mod Tallying

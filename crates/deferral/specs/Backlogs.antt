@@ -1,9 +1,10 @@
 -- Pending routes, ends, and who is deferred on whom.
-use Rattle.std.specs.Prelude.{ℕ, Bool, false, not, ◌&&◌, ◌==◌, nat_lt, if◌then◌else◌, List, [], length, Option, Some, None, slice_index_or}
+use Rattle.std.specs.Prelude.{◌≡◌, ◌<◌, ◌≤◌, ◌⊎◌, ℕ, Bool, true, false, not, ◌&&◌, ◌==◌, nat_lt, if◌then◌else◌, List, [], length, Option, Some, None, slice_index_or}
 use Rattle.std.specs.List.{filter, list_any}
 use Rattle.std.specs.Option.{option_map}
 use Rattle.std.specs.Ordering.{nat_cmp}
 use Rattle.std.specs.FinSet as set
+use Rattle.fleet_base.specs.declared.answers.Blocker.{Blocker}
 use Rattle.fleet_base.specs.declared.numbers.CellNo.{CellNo}
 use Rattle.fleet_base.specs.declared.numbers.ClaimGroup.{ClaimGroup}
 use Rattle.fleet_base.specs.declared.numbers.ClaimNo.{ClaimNo}
@@ -47,10 +48,6 @@ abbrev pub kept_claims : List ClaimGroup → Option Pending → List ClaimNo →
 kept_claims groups None end = []
 kept_claims groups (Some p) end = needed_claims groups p.needs end
 
--- robot q is another, and its end has claims that conflict with one that robot r needs
-abbrev pub is_kept_apart : List ClaimGroup → Option Pending → List ClaimNo → ℕ → ℕ → Bool
-is_kept_apart groups pending end r q = not (q == r) && nat_lt 0 (length (kept_claims groups pending end))
-
 -- the number of blockers of the pending route of robot r with robot q
 abbrev pub blocker_count : Backlog → ℕ → ℕ → ℕ
 blocker_count b r q = if q == r then 0 else length (kept_claims b.groups (pending_of b r) (end_claims b q))
@@ -58,3 +55,12 @@ blocker_count b r q = if q == r then 0 else length (kept_claims b.groups (pendin
 -- the pending route of robot r has a blocker with robot q
 abbrev pub is_deferred_on : Backlog → ℕ → ℕ → Bool
 is_deferred_on b r q = nat_lt 0 (blocker_count b r q)
+
+-- the claim of this number is one of these, and the end of another robot keeps it from robot r
+abbrev pub blocks : Backlog → ℕ → set.FinSet nat_cmp → ℕ → ℕ → Bool
+blocks b r needs c q = set.contains needs c && (not (q == r) && is_kept b.groups (end_claims b q) c)
+
+-- the blocker of least claim, and of these the one of least robot; None where there is none
+abbrev pub IsLeastBlocker : Backlog → ℕ → set.FinSet nat_cmp → Option Blocker → Type 0
+IsLeastBlocker b r needs None = (c q : ℕ) → blocks b r needs c q ≡ false
+IsLeastBlocker b r needs (Some k) = (blocks b r needs k.claim.0 k.by.0 ≡ true) × ((c q : ℕ) → blocks b r needs c q ≡ true → (k.claim.0 < c) ⊎ ((k.claim.0 ≡ c) × (k.by.0 ≤ q)))

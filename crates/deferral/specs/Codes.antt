@@ -8,6 +8,7 @@ use Rattle.fleet_base.specs.declared.numbers.ClaimGroup.{ClaimGroup}
 use Rattle.fleet_base.specs.declared.numbers.ClaimNo.{ClaimNo}
 use Rattle.deferral.specs.declared.pending.Pending.{Pending}
 use Rattle.deferral.specs.Backlogs.{Backlog}
+use Rattle.deferral.specs.Tallies.{Marks}
 
 -- a cell is its number
 abbrev pub cell_code : Coded CellNo
@@ -31,3 +32,7 @@ backlog_code =
     code_by (List ClaimGroup × (List (Option Pending) × List (List ClaimNo)))
     (coded× (coded_list group_code) (coded× (coded_list (coded_option pending_code)) (coded_list (coded_list claim_code))))
     (λ b. (b.groups, (b.pending, b.ends))) (λ p. record { groups = p.0; pending = p.1.0; ends = p.1.1 }) (λ _. refl)
+
+-- two lists of words are their pair
+abbrev pub marks_code : Coded Marks
+marks_code = code_by (List ℕ × List ℕ) (coded× (coded_list coded_ℕ) (coded_list coded_ℕ)) (λ m. (m.needed, m.kept)) (λ p. record { needed = p.0; kept = p.1 }) (λ _. refl)

@@ -7,7 +7,7 @@ use Rattle.fleet_base.specs.declared.numbers.ClaimNo.{ClaimNo}
 use Rattle.fleet_model.specs.Lists.{In}
 use Rattle.fleet_model.specs.Plans.{IsBlocker}
 use Rattle.fleet_model.specs.Cycles.{are_distinct}
-use Rattle.fleet_model.specs.Sites.{footprint_of, needs}
+use Rattle.fleet_model.specs.Sites.{Site, footprint_of, needs}
 use Rattle.fleet_model.specs.Deferral.{ends}
 use Rattle.fleet_model.specs.States.{State, pending_route}
 use Rattle.fleet_model.specs.States as model
@@ -24,3 +24,8 @@ pub record Shows (b : Backlog) (s : State) : Type 0 where
 pub record AreBlockers (s : State) (r q : ℕ) (route : List CellNo) (claims : List ℕ) : Type 0 where
   pub distinct : are_distinct claims ≡ true
   pub blocking : (c : ClaimNo) → In c.0 claims ↔ IsBlocker s.fleet r route c q
+
+-- the groups are the site's, and the claims of each end are the footprint of its cell
+pub record ShowsEnds (b : Backlog) (site : Site) (cells : List CellNo) : Type 0 where
+  pub groups : b.groups ≡ site.groups
+  pub ends : (q : ℕ) → end_claims b q ≡ unwrap_or (option_map (footprint_of site) (slice_get cells q)) []

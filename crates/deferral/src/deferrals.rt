@@ -3,17 +3,19 @@
 ghost use Rattle.std.specs.Prelude.{◌≡◌, ℕ, ◌<◌, ◌≤◌, [], None, Some, length, replicate, slice_set, IfOk};
 ghost use Rattle.std.specs.Option.{option_map};
 ghost use Rattle.fleet_base.specs.EdgeSets.{leads};
-ghost use Rattle.deferral.specs.Backlogs.{blocker_count, is_deferred_on, route_of, end_claims, pending_of};
+ghost use Rattle.deferral.specs.Backlogs.{blocker_count, is_deferred_on, route_of, end_claims, pending_of, IsLeastBlocker};
 
-use crate::counts::count_kept;
 use crate::ends::End;
+use crate::keeping::{free_all, keep_all};
 use crate::pending::Pending;
-use crate::renewal::{renew_from, renew_to};
+use crate::tally::Tally;
+use claim_reach::{Reach, reaches};
+use fleet_base::answers::Blocker;
 use fleet_base::claim_set::ClaimSet;
 use fleet_base::claims::Claims;
 use fleet_base::edges::Edges;
 use fleet_base::limits::{MAX_CLAIMS, MAX_ROBOTS};
-use fleet_base::numbers::{CellNo, ClaimGroup, RobotNo};
+use fleet_base::numbers::{CellNo, ClaimGroup, ClaimNo, RobotNo};
 use fleet_base::path::{NoMemory, Path};
 use std::alloc::{AllocError, Global};
 use std::marker::Model;
@@ -24,9 +26,11 @@ use std::marker::Model;
 #[derive(Drop)]
 pub struct Deferrals {
     groups: Vec<ClaimGroup>,
+    // For each claim the numbers among which those in conflict with it are.
+    reaches: Vec<Reach>,
     pending: Vec<Option<Pending>>,
     ends: Vec<End>,
-    edges: Edges,
+    tally: Tally,
 }
 
 impl Model for Deferrals {
@@ -55,6 +59,8 @@ impl Deferrals {
           ends = replicate robots [];
         }) }
     {
+        let reaches = reaches(alloc, groups)?;
+        let tally = Tally::new(alloc, groups.len())?;
         let groups = Vec::from_slice(alloc, groups)?;
         let mut pending = Vec::with_capacity(alloc, robots as usize)?;
         let mut ends = Vec::with_capacity(alloc, robots as usize)?;
@@ -64,9 +70,10 @@ impl Deferrals {
         }
         Ok(Deferrals {
             groups,
+            reaches,
             pending,
             ends,
-            edges: Edges::new(),
+            tally,
         })
     }
 
@@ -78,15 +85,8 @@ impl Deferrals {
           pending = slice_set self.old.pending robot.0 (Some (record { route = route; needs = needs }));
         } }
     {
-        let place = robot.0 as usize;
-        self.pending[place] = Some(Pending { route, needs });
-        renew_from(
-            &mut self.edges,
-            &self.groups,
-            &self.pending[place],
-            &self.ends,
-            robot.0,
-        );
+        self.tally.add_needs(robot, &needs);
+        self.pending[robot.0 as usize] = Some(Pending { route, needs });
     }
 
     /// Hands the robot's pending route back, which isn't pending from then on. None where it has none.
@@ -95,16 +95,9 @@ impl Deferrals {
         ensures route { result ≡ route_of self.old robot.0 }
         ensures after { self.new ≡ record self.old { pending = slice_set self.old.pending robot.0 None } }
     {
-        let place = robot.0 as usize;
-        let taken = self.pending[place].take();
-        renew_from(&mut self.edges, &self.groups, &None, &self.ends, robot.0);
-        match taken {
-            Some(pending) => {
-                let Pending { route, needs: _ } = pending;
-                Some(route)
-            }
-            None => None,
-        }
+        let Pending { route, needs } = self.pending[robot.0 as usize].take()?;
+        self.tally.drop_needs(robot, &needs);
+        Some(route)
     }
 
     /// The claims of the robot's end change. `old` is what they were.
@@ -113,15 +106,21 @@ impl Deferrals {
         requires told { old.now ≡ end_claims self.old robot.0 }
         ensures { self.new ≡ record self.old { ends = slice_set self.old.ends robot.0 new.now } }
     {
-        let place = robot.0 as usize;
-        self.ends[place] = End::of(new.list());
-        renew_to(
-            &mut self.edges,
+        free_all(
+            &mut self.tally,
             &self.groups,
-            &self.pending,
-            &self.ends[place],
-            robot.0,
+            &self.reaches,
+            robot,
+            old.list(),
         );
+        keep_all(
+            &mut self.tally,
+            &self.groups,
+            &self.reaches,
+            robot,
+            new.list(),
+        );
+        self.ends[robot.0 as usize] = End::of(new.list());
     }
 
     /// The cells of the robot's pending route. None where it has none.
@@ -142,12 +141,23 @@ impl Deferrals {
         requires to_known { to.0 < length self.now.ends }
         ensures { result ≡ blocker_count self.now from.0 to.0 }
     {
-        if from.0 == to.0 {
-            0
-        } else {
-            let end = &self.ends[to.0 as usize];
-            count_kept(&self.groups, &self.pending[from.0 as usize], end.claims())
+        self.tally.count(from, to)
+    }
+
+    /// The blocker of a route of the robot that needs these claims: the one of least claim, and of
+    /// these the one of least robot. None exactly where no other robot's end keeps a needed claim.
+    pub fn blocker(&self, robot: RobotNo, needs: &ClaimSet) -> Option<Blocker>
+        requires { robot.0 < length self.now.pending }
+        ensures { IsLeastBlocker self.now robot.0 needs.now result }
+    {
+        let mut from = ClaimNo(0);
+        while let Some(claim) = needs.next(from) {
+            if let Some(by) = self.tally.keeper(claim, robot) {
+                return Some(Blocker { claim, by });
+            }
+            from = ClaimNo(claim.0 + 1);
         }
+        None
     }
 
     /// The deferral relation: an edge leads from a robot to another where the other's end keeps a
@@ -155,6 +165,6 @@ impl Deferrals {
     pub fn edges(&self) -> &Edges
         ensures { (r q : ℕ) → leads result.now r q ≡ is_deferred_on self.now r q }
     {
-        &self.edges
+        self.tally.edges()
     }
 }

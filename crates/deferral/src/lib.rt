@@ -1,15 +1,16 @@
 //! Which robot is deferred on which, kept as ends and pending routes change.
 #![tactic(auto)]
 
-mod counts;
 mod deferrals;
 mod ends;
+mod keeping;
 mod laws;
+mod matrix;
 mod pending;
-mod renewal;
+mod tally;
 #[cfg(test)]
 mod tests;
 
 pub use deferrals::Deferrals;
-pub use laws::deferrals_are_those_of_states;
+pub use laws::{blockers_are_those_of_sites, deferrals_are_those_of_states};
 pub use pending::Pending;

@@ -1,9 +1,10 @@
-//! Counts as an end changes, and a route that is handed back.
+//! Counts and blockers as an end changes, and a route that is handed back.
 
 ghost use Rattle.std.specs.Prelude.{◌≡◌, ◌<◌, [], None, length, IfOk};
 ghost use Rattle.deferral.specs.Backlogs.{end_claims, pending_of};
 
 use crate::Deferrals;
+use fleet_base::answers::Blocker;
 use fleet_base::claim_set::ClaimSet;
 use fleet_base::claims::Claims;
 use fleet_base::numbers::{CellNo, ClaimGroup, ClaimNo, RobotNo};
@@ -28,6 +29,14 @@ fn two_robots(alloc: Global) -> Result<Deferrals, NoMemory>
     Deferrals::new(alloc, &groups, 2)
 }
 
+// The claims 1 and 2.
+fn two_claims() -> ClaimSet {
+    let mut needs = ClaimSet::new();
+    needs.put(ClaimNo(1));
+    needs.put(ClaimNo(2));
+    needs
+}
+
 // The first robot needs the claims 1 and 2.
 fn wait(deferrals: &mut Deferrals, route: Path)
     requires known { 0 < length deferrals.old.pending }
@@ -35,10 +44,7 @@ fn wait(deferrals: &mut Deferrals, route: Path)
     ensures robots { length deferrals.new.pending ≡ length deferrals.old.pending }
     ensures ends { deferrals.new.ends ≡ deferrals.old.ends }
 {
-    let mut needs = ClaimSet::new();
-    needs.put(ClaimNo(1));
-    needs.put(ClaimNo(2));
-    deferrals.put(RobotNo(0), route, needs);
+    deferrals.put(RobotNo(0), route, two_claims());
 }
 
 // The second robot's end changes.
@@ -73,6 +79,11 @@ fn counts_follow_ends(rt: HostRuntime) -> Result<(), Fail> {
     tell(&mut deferrals, &nothing, &both);
     assert_eq!(rt; deferrals.count(RobotNo(0), RobotNo(1)), 2);
     assert!(rt; deferrals.edges().has(RobotNo(0), RobotNo(1)));
+    let blocker = Blocker {
+        claim: ClaimNo(1),
+        by: RobotNo(1),
+    };
+    assert_eq!(rt; deferrals.blocker(RobotNo(0), &two_claims()), Some(blocker));
     let mut second = Claims::new(alloc);
     second.put(ClaimNo(2));
     tell(&mut deferrals, &both, &second);
@@ -82,6 +93,9 @@ fn counts_follow_ends(rt: HostRuntime) -> Result<(), Fail> {
     tell(&mut deferrals, &second, &third);
     assert_eq!(rt; deferrals.count(RobotNo(0), RobotNo(1)), 0);
     assert!(rt; !deferrals.edges().has(RobotNo(0), RobotNo(1)));
+    assert_eq!(rt; deferrals.blocker(RobotNo(0), &two_claims()), None);
+    assert!(rt; hand_back(&mut deferrals).is_some());
+    assert_eq!(rt; deferrals.count(RobotNo(0), RobotNo(1)), 0);
     Ok(())
 }
 
@@ -94,6 +108,6 @@ fn hands_route_back(rt: HostRuntime) -> Result<(), Fail> {
     assert!(rt; deferrals.pending(RobotNo(0)).is_some());
     let route = hand_back(&mut deferrals).ok_or("none")?;
     assert_eq!(rt; route.cells(), cells.as_slice());
-    assert_eq!(rt; deferrals.count(RobotNo(0), RobotNo(1)), 0);
+    assert!(rt; deferrals.pending(RobotNo(0)).is_none());
     Ok(())
 }

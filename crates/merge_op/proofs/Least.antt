@@ -7,13 +7,14 @@ use Rattle.std.specs.Ordering.{nat_cmp}
 use Rattle.std.specs.FinSet.{FinSet, contains}
 use Rattle.fleet_base.specs.declared.numbers.CellNo.{CellNo}
 use Rattle.fleet_base.specs.declared.numbers.ClaimNo.{ClaimNo}
+use Rattle.fleet_base.specs.ClaimSets.{IsSetOf}
 use Rattle.fleet_model.specs.Lists.{In, pairs, numbers_below}
 use Rattle.fleet_model.specs.Sites.{Site}
 use Rattle.fleet_model.specs.Deferral.{blockers, block_precedes, is_kept_by, least_blocker}
 use Rattle.fleet_model.proofs.Blockers.{block_itself, block_parts, block_total, block_trans, has_In, In_has}
 use Rattle.fleet_model.proofs.Leasts.{least_first, least_in, least_some}
 use Rattle.fleet_model.proofs.Lists.{In_below, In-filter, In_pairs, In_unfilter, pairs_In}
-use Rattle.merge_op.specs.Blocked.{is_kept_apart, IsSetOf}
+use Rattle.merge_op.specs.Blocked.{is_kept_apart}
 
 -- no robot keeps a claim below the bound that is in the set
 abbrev pub AreFreeBelow : Site → List CellNo → ℕ → FinSet nat_cmp → ℕ → Type 0

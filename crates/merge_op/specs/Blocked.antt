@@ -6,17 +6,8 @@ use Rattle.fleet_base.specs.declared.numbers.CellNo.{CellNo}
 use Rattle.fleet_base.specs.declared.numbers.ClaimGroup.{ClaimGroup}
 use Rattle.fleet_base.specs.declared.numbers.ClaimNo.{ClaimNo}
 use Rattle.fleet_model.specs.Lists.{In}
-use Rattle.fleet_model.specs.Sites.{Site, footprint_of, has_claim}
+use Rattle.fleet_model.specs.Sites.{Site, footprint_of}
 use Rattle.fleet_model.specs.Deferral.{is_kept_by}
-use Rattle.merge_op.specs.declared.blockers.Blocker.{Blocker}
-
--- the claim and the number of the robot
-abbrev pub pair_of : Blocker → ClaimNo × ℕ
-pair_of blocker = (blocker.claim, blocker.by.0)
-
--- the set has just the numbers of these claims
-abbrev pub IsSetOf : set.FinSet nat_cmp → List ClaimNo → Type 0
-IsSetOf numbers claims = (c : ClaimNo) → set.contains numbers c.0 ≡ has_claim claims c
 
 -- robot q is another than r, and its end keeps the claim
 abbrev pub is_kept_apart : Site → List CellNo → ℕ → ClaimNo → ℕ → Bool

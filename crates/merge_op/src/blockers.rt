@@ -5,23 +5,18 @@ ghost use Rattle.std.specs.FinSet as set;
 ghost use Rattle.std.specs.Option.{option_map};
 ghost use Rattle.fleet_base.specs.declared.numbers.CellNo.{CellNo};
 ghost use Rattle.fleet_base.specs.declared.numbers.ClaimNo.{ClaimNo};
+ghost use Rattle.fleet_base.specs.Blockers.{pair_of};
+ghost use Rattle.fleet_base.specs.ClaimSets.{IsSetOf};
 ghost use Rattle.fleet_model.specs.Deferral.{least_blocker};
 ghost use Rattle.site_map.specs.Claims.{claim_total, site_of};
-ghost use Rattle.merge_op.specs.Blocked.{pair_of, IsSetOf, IsLeastKeeper, HasGroupsOf, HasTaken};
+ghost use Rattle.merge_op.specs.Blocked.{IsLeastKeeper, HasGroupsOf, HasTaken};
 
 use bit_set::BitSet;
+use fleet_base::answers::Blocker;
 use fleet_base::claim_set::ClaimSet;
 use fleet_base::limits::{MAX_CLAIMS, MAX_ROBOTS};
 use fleet_base::numbers::{CellNo, ClaimNo, RobotNo};
 use site_map::site::Site;
-
-/// What keeps a route from being merged: a claim that it needs, and another robot whose end keeps
-/// the claim.
-#[derive(Clone, Copy, Debug, PartialEq, Eq)]
-pub struct Blocker {
-    pub claim: ClaimNo,
-    pub by: RobotNo,
-}
 
 /// The blocker of a route of the robot that needs these claims, where each robot has its end: the
 /// one of least claim, and of these the one of least robot. None exactly where there is none. It

@@ -8,10 +8,11 @@ ghost use Rattle.site_map.specs.Claims.{claim_total, site_of};
 ghost use Rattle.event_graph.specs.Example.{behind, example_groups, over};
 ghost use Rattle.merge_op.specs.Plan.{IsPlan};
 
-use crate::blockers::{Blocker, least_blocker};
+use crate::blockers::least_blocker;
 use crate::merging::merge;
 use crate::withdrawal::removable;
 use event_graph::graph::EventGraph;
+use fleet_base::answers::Blocker;
 use fleet_base::claim_set::ClaimSet;
 use fleet_base::numbers::{CellNo, ClaimGroup, ClaimNo, EventNo, Kind, RobotNo, Span};
 use fleet_base::path::NoMemory;

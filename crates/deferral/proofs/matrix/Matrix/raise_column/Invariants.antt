@@ -1,0 +1,11 @@
+use Rattle.std.proofs.Common.{◌≡◌, ℕ, ◌+◌, ◌-◌, ◌≤◌, ◌==◌, ◌&&◌}
+use Rattle.std.specs.Prelude.{nat_lt}
+use Rattle.bit_set.specs.Words.{is_in}
+use Rattle.deferral.specs.Matrices.{count_at, one_if}
+use Rattle.deferral.proofs.matrix.Matrix.raise_column.Given as goal
+
+abbrev pub invariant-loop-robot : goal.invariant-loop-robot
+invariant-loop-robot l = (l.bound ≤ 64) × ((r q : ℕ) → count_at l.self r q ≡ count_at l.fn.self r q + one_if ((q == l.to.0) && (nat_lt r l.bound && is_in l.from r)))
+
+abbrev pub decreases-loop-robot : goal.decreases-loop-robot
+decreases-loop-robot l = 64 - l.bound
