@@ -25,7 +25,7 @@ use Rattle.coordinator.proofs.Proposed.{first_parts}
 find_none_of : {A : Type 0} (p : A → Bool) (xs : List A) (x : A) → find p xs ≡ None → In x xs → p x ≡ false
 find_none_of p xs x none m = false_from_ne_true (p x) (λ found. both_ways (is_some (find p xs)) (ap is_some none) (In_found p xs m found))
 
-with_apart : (site : Site) (one : ℕ) (a : CellNo) (other : ℕ) (others : List CellNo) (k : ℕ) (b : CellNo) → clash_with site one a other others ≡ None → slice_get others k ≡ Some b → kept_claim site a b ≡ None
+pub with_apart : (site : Site) (one : ℕ) (a : CellNo) (other : ℕ) (others : List CellNo) (k : ℕ) (b : CellNo) → clash_with site one a other others ≡ None → slice_get others k ≡ Some b → kept_claim site a b ≡ None
 with_apart site one a other [] k b none at = absurd (cc)
 with_apart site one a other (y ∷ ys) zero b none at =
     let parts = first_parts (option_map (clash_by one other) (kept_claim site a y)) (clash_with site one a (other + 1) ys ∷ []) none in
@@ -45,14 +45,14 @@ from_apart site n (x ∷ xs) (suc i) (suc j) a b none less ai bj =
     from_apart site (n + 1) xs i j a b (first_parts (clash_from site (n + 1) xs) [] parts.1).0 (omega arith) ai bj
 
 -- claims of two cells without such a claim don't conflict
-kept_apart : (site : Site) (a b : CellNo) (c d : ClaimNo) → kept_claim site a b ≡ None → has_claim (footprint_of site a) c ≡ true → has_claim (footprint_of site b) d ≡ true → in_conflict site.groups c d ≡ true → ⊥
+pub kept_apart : (site : Site) (a b : CellNo) (c d : ClaimNo) → kept_claim site a b ≡ None → has_claim (footprint_of site a) c ≡ true → has_claim (footprint_of site b) d ≡ true → in_conflict site.groups c d ≡ true → ⊥
 kept_apart site a b c d none hc hd conflict =
     both_ways (is_kept_from site c b)
     (find_none_of (λ x. is_kept_from site x b) (footprint_of site a) c none (has_In (footprint_of site a) c hc))
     (In_any (λ x. in_conflict site.groups c x) (footprint_of site b) (has_In (footprint_of site b) d hd) conflict)
 
 -- what a robot that has a start holds there
-holds_at : (site : Site) (starts : List CellNo) (r : ℕ) (c : ClaimNo) → (opening site starts r).holds c ≡ true → (a : CellNo) × (slice_get starts r ≡ Some a) × (has_claim (footprint_of site a) c ≡ true)
+pub holds_at : (site : Site) (starts : List CellNo) (r : ℕ) (c : ClaimNo) → (opening site starts r).holds c ≡ true → (a : CellNo) × (slice_get starts r ≡ Some a) × (has_claim (footprint_of site a) c ≡ true)
 holds_at site starts r c holds = go (slice_get starts r) refl holds
   where
     go : (o : Option CellNo) → slice_get starts r ≡ o → (start_at site o).holds c ≡ true → (a : CellNo) × (slice_get starts r ≡ Some a) × (has_claim (footprint_of site a) c ≡ true)
@@ -60,7 +60,7 @@ holds_at site starts r c holds = go (slice_get starts r) refl holds
     go (Some a) is h = (a, is, h)
 
 module _ (site : Site) (starts : List CellNo) (cap : ℕ) (none : clash_from site 0 starts ≡ None) where
-  apart : (r q : ℕ) (c d : ClaimNo) → r ≢ q → in_conflict site.groups c d ≡ true → (opening site starts r).holds c ≡ true → (opening site starts q).holds d ≡ true → ⊥
+  pub apart : (r q : ℕ) (c d : ClaimNo) → r ≢ q → in_conflict site.groups c d ≡ true → (opening site starts r).holds c ≡ true → (opening site starts q).holds d ≡ true → ⊥
   apart r q c d other conflict hc hd =
       let a = holds_at site starts r c hc in
       let b = holds_at site starts q d hd in
@@ -78,8 +78,10 @@ module _ (site : Site) (starts : List CellNo) (cap : ℕ) (none : clash_from sit
   pub opens : IsOpening site starts (map (λ a. None) starts) 1 cap
   opens = record {
     first = omega arith;
+    bounded = omega arith;
     apart = apart;
     places = length-map starts (λ a. None);
     routes = no_route;
     room = omega (arith, none_owed starts);
+    total = omega (arith, none_owed starts);
   }

@@ -21,7 +21,7 @@ use Rattle.coordinator.proofs.PendingRoutes.{ends_same}
 use Rattle.coordinator.proofs.Replans.{no_detour}
 use Rattle.coordinator.proofs.ShutCells.{shut_is}
 
-module _ (c : Inside) (kept : IsKept c) (r : ℕ) (known : r < length c.starts.items) where
+module _ (c : Inside) (kept : IsKept c) (r : ℕ) (known : r < length c.from.at.items) where
   abbrev s : State
   s = state c kept
 

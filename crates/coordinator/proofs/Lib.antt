@@ -6,6 +6,8 @@ pub mod DeferredRoutes
 pub mod Detouring
 pub mod EndCells
 pub mod KeptNext
+pub mod Leaving
+pub mod Lent
 pub mod MergedRoutes
 pub mod OpeningShown
 pub mod PendingRoutes
@@ -13,8 +15,8 @@ pub mod Proposed
 pub mod Proposing
 pub mod Replans
 pub mod Reporting
+pub mod Resumed
 pub mod Retries
-pub mod Routes
 pub mod Searches
 pub mod ShutCells
 pub mod Standing

@@ -1,29 +1,30 @@
 -- Pending routes and their blockers, over the tables.
-use Rattle.std.proofs.Common.{◌≡◌, ℕ, ◌<◌, ◌≤◌, List, [], ◌∷◌, length, get_or, Option, Some, None, sym, ap, subst, ◌∙◌, refl, arith}
+use Rattle.std.proofs.Common.{◌≡◌, ℕ, ◌<◌, ◌≤◌, List, length, get_or, Option, Some, None, sym, ap, subst, ◌∙◌, refl, arith}
 use Rattle.std.proofs.lemmas.Option.{slice_get-get_or}
-use Rattle.std.specs.Prelude.{All}
-use Rattle.std.specs.Option.{option_map}
+use Rattle.std.specs.Prelude.{All, slice_get, []}
+use Rattle.std.specs.Option.{option_map, unwrap_or}
 use Rattle.fleet_base.specs.Lists.{robots_of}
 use Rattle.fleet_base.specs.declared.answers.Block.{Block}
 use Rattle.fleet_base.specs.declared.numbers.CellNo.{CellNo}
 use Rattle.fleet_base.specs.declared.numbers.ClaimNo.{ClaimNo}
 use Rattle.fleet_base.specs.declared.numbers.RobotNo.{RobotNo}
-use Rattle.fleet_model.specs.Sites.{cell_count, needs}
+use Rattle.fleet_model.specs.Sites.{Site, footprint_of, needs}
 use Rattle.fleet_model.specs.Plans.{IsRoute, end_of}
 use Rattle.fleet_model.specs.Deferral.{ends, least_blocker}
 use Rattle.fleet_model.specs.States.{State, block_of, cycle_of, pending_of}
 use Rattle.fleet_model.proofs.Blockers.{length-ends}
 use Rattle.deferral.specs.Backlogs as backlogs
-use Rattle.merge_op.specs.declared.blockers.Blocker.{Blocker}
-use Rattle.merge_op.specs.Blocked.{pair_of}
+use Rattle.deferral.specs.Laws.{ShowsEnds}
+use Rattle.fleet_base.specs.declared.answers.Blocker.{Blocker}
+use Rattle.fleet_base.specs.Blockers.{pair_of}
 use Rattle.plan_events.specs.Shapes.{shape_cause}
+use Rattle.plan_events.proofs.Routes.{walk_shape}
 use Rattle.robot_tables.specs.Robots.{Robots}
 use Rattle.site_map.specs.Claims.{site_of}
 use Rattle.coordinator.specs.declared.coordinator.Coordinator.TheInside.{Inside}
 use Rattle.coordinator.specs.Kept.{IsKept}
 use Rattle.coordinator.proofs.KeptNext.{good, site_is, state}
-use Rattle.coordinator.proofs.MergedRoutes.{cells_of, end_at, end_cell}
-use Rattle.coordinator.proofs.Routes.{route_shape}
+use Rattle.coordinator.proofs.MergedRoutes.{end_at, end_cell}
 
 module _ (c : Inside) (kept : IsKept c) where
   abbrev s : State
@@ -37,22 +38,13 @@ module _ (c : Inside) (kept : IsKept c) where
   legal r route is = (good c kept).routes r route is
 
   -- a legal route has a shape
-  pub shape_is : (r : ℕ) (route : List CellNo) → r < length s.fleet.starts → IsRoute s.fleet r route → shape_cause (site_of c.site) route ≡ None
-  shape_is r [] known is = let long = is.long in absurd (omega arith)
-  shape_is r (a ∷ bs) known is =
-      let count : cell_count s.fleet.site ≡ c.site.cells = ap cell_count kept.state.site ∙ cells_of c.site in
-      let begins : a ≡ end_of s.fleet r = (let h = is.begins in cc) in
-      let first : a.0 < c.site.cells = subst (λ (x : CellNo). x.0 < c.site.cells) (sym begins) (end_cell c kept r known) in
-      subst (λ z. shape_cause z (a ∷ bs) ≡ None) kept.state.site
-      (route_shape s.fleet.site (site_is c kept) a bs is.long is.short (omega (arith, first, count)) is.linked)
+  pub shape_is : (r : ℕ) (route : List CellNo) → IsRoute s.fleet r route → shape_cause (site_of c.site) route ≡ None
+  shape_is r route is = subst (λ z. shape_cause z route ≡ None) kept.state.site (walk_shape s.fleet.site (site_is c kept) route is.long is.short is.linked)
 
   pub ends_known : All (λ (a : CellNo). a.0 < c.site.cells) c.tables.robots.ends
   ends_known k d within =
       let is = end_at c kept k (get_or c.tables.robots.ends k d) (slice_get-get_or c.tables.robots.ends k d within) in
       subst (λ (a : CellNo). a.0 < c.site.cells) (sym is.1) (end_cell c kept k is.0)
-
-  pub few_ends : length c.tables.robots.ends ≤ 64
-  few_ends = omega (arith, ap (λ (k : Robots). length k.ends) kept.tables.known, length-ends s.fleet, ap length kept.state.starts, kept.few)
 
   -- the block that a blocker makes
   abbrev pub made : State → ℕ → Blocker → Block
@@ -80,3 +72,12 @@ module _ (c : Inside) (kept : IsKept c) where
 
   pub ends_same : ends s.fleet ≡ c.tables.robots.ends
   ends_same = ap (λ (k : Robots). k.ends) (sym kept.tables.known)
+
+  -- the ends that were told are those of the robots, at the site
+  pub ends_shown : ShowsEnds c.tables.deferrals (site_of c.site) c.tables.robots.ends
+  ends_shown = record {
+    groups = kept.tables.deferrals.groups ∙ ap (λ (z : Site). z.groups) kept.state.site;
+    ends = λ q. kept.tables.deferrals.ends q
+        ∙ ap (λ (z : Site). unwrap_or (option_map (footprint_of z) (slice_get (ends s.fleet) q)) []) kept.state.site
+        ∙ ap (λ es. unwrap_or (option_map (footprint_of (site_of c.site)) (slice_get es q)) []) ends_same;
+  }

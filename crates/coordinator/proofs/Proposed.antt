@@ -17,7 +17,8 @@ use Rattle.fleet_model.specs.Lists.{first_some, when}
 use Rattle.fleet_model.specs.Sites.{steps}
 use Rattle.fleet_model.specs.Plans.{IsRoute}
 use Rattle.fleet_model.specs.States.{State, block_of, is_full, is_robot, pending_of}
-use Rattle.fleet_model.specs.Calls.{Propose, Step, accepted, deferring, first_of, propose, propose_growth, propose_outcome, propose_refusals, span_of, unless, unless_refused, with_route}
+use Rattle.fleet_model.specs.Calls.{Propose, Step, accepted, deferring, first_of, in_segment, propose, propose_growth, propose_outcome, propose_refusals, span_of, unless, unless_refused, with_route}
+use Rattle.fleet_model.specs.Good.{IsGood}
 use Rattle.fleet_model.proofs.Accepted.{accepts_propose}
 use Rattle.fleet_model.proofs.Changes.{Accepts, CanChange, Change, Cut, Did, Dropped, Grew, Kept, Tells}
 use Rattle.fleet_model.proofs.Options.{none_of, when_none}
@@ -44,11 +45,11 @@ proceeds : (s : State) (r : ℕ) (cells : List CellNo) (block : Option Block) �
 proceeds s r cells block early room = ap (λ o. unless_refused o s (propose_outcome s r cells block)) (room_alone s r cells block early room)
 
 pub merged_is : (s : State) (r : ℕ) (cells : List CellNo) → early_cause s r cells ≡ None → block_of (deferring s r cells) r cells ≡ None → is_full s (1 + length (steps s.fleet.site cells)) ≡ false
-    → propose s r cells ≡ accepted (proposed.Merged (span_of s cells)) r (act.Merged cells (first_of s)) (with_route s r cells)
+    → propose s r cells ≡ accepted (proposed.Merged (span_of s cells)) r (act.Merged cells (first_of s)) (in_segment s (1 + length (steps s.fleet.site cells)) (with_route s r cells))
 merged_is s r cells early free room = ap (by_block s r cells) free ∙ proceeds s r cells None early room
 
 pub deferred_is : (s : State) (r : ℕ) (cells : List CellNo) (block : Block) → early_cause s r cells ≡ None → block_of (deferring s r cells) r cells ≡ Some block → is_full s 2 ≡ false
-    → propose s r cells ≡ accepted (proposed.Deferred block) r (act.Deferred cells block.cycle) (deferring s r cells)
+    → propose s r cells ≡ accepted (proposed.Deferred block) r (act.Deferred cells block.cycle) (in_segment s 2 (deferring s r cells))
 deferred_is s r cells block early blocked room = ap (by_block s r cells) blocked ∙ proceeds s r cells (Some block) early room
 
 -- a merged route is legal
@@ -59,15 +60,15 @@ route_told s r Dropped cells first can tells = absurd tells
 route_told s r Cut cells first can tells = absurd tells
 route_told s r (Did e) cells first can tells = absurd tells
 
-pub merged_would : (s : State) (r : ℕ) (cells : List CellNo) (kinds : List Kind) (route : List CellNo) (d : CellNo) → r < length s.fleet.starts → kinds ≡ steps s.fleet.site cells → route ≡ cells
-    → propose s r cells ≡ accepted (proposed.Merged (span_of s cells)) r (act.Merged cells (first_of s)) (with_route s r cells) → WouldMerge s r kinds (get_or cells (length cells - 1) d) (act.Merged route (first_of s))
-merged_would s r cells kinds route d known are same is =
+pub merged_would : (s : State) (r : ℕ) (cells : List CellNo) (kinds : List Kind) (route : List CellNo) (d : CellNo) → r < length s.fleet.starts → kinds ≡ steps s.fleet.site cells → route ≡ cells → IsGood s → is_full s (1 + length (steps s.fleet.site cells)) ≡ false
+    → propose s r cells ≡ accepted (proposed.Merged (span_of s cells)) r (act.Merged cells (first_of s)) (in_segment s (1 + length (steps s.fleet.site cells)) (with_route s r cells)) → WouldMerge s r kinds (get_or cells (length cells - 1) d) (act.Merged route (first_of s))
+merged_would s r cells kinds route d known are same good room is =
     let entry : Entry = record { robot = record { 0 = r }; act = act.Merged cells (first_of s) } in
     let gives = ap (λ (t : Step Proposed ProposeRefused). t.entry) is in
-    let how : Accepts s r entry (propose s r cells).after = accepts_propose s r cells entry gives in
+    let how : Accepts s r entry (propose s r cells).after = accepts_propose s r cells entry good gives in
     let legal = route_told s r how.change cells (first_of s) how.can how.tells in
     subst (λ w. WouldMerge s r kinds (get_or cells (length cells - 1) d) (act.Merged w (first_of s))) (sym same)
-    (would_merge s r cells kinds (act.Merged cells (first_of s)) (Propose cells) d known legal are gives (ap (λ (t : Step Proposed ProposeRefused). t.after) is))
+    (would_merge s r cells kinds (act.Merged cells (first_of s)) (Propose cells) (1 + length (steps s.fleet.site cells)) d known legal are gives (ap (λ ks. 1 + length ks) are) room (ap (λ (t : Step Proposed ProposeRefused). t.after) is))
 
 pub first_parts : {A : Type 0} (o : Option A) (os : List (Option A)) → first_some (o ∷ os) ≡ None → (o ≡ None) × (first_some os ≡ None)
 first_parts None os is = (refl, is)

@@ -12,7 +12,7 @@ use Rattle.fleet_model.specs.Calls.{begin_at, unlinked_at}
 use Rattle.plan_events.specs.Shapes.{shape_cause}
 use Rattle.plan_events.proofs.Causes.{accepted_known, accepted_shape}
 use Rattle.coordinator.specs.Proposals.{early_cause, refused_or}
-use Rattle.coordinator.proofs.Routes.{none_unlinked}
+use Rattle.plan_events.proofs.Routes.{none_unlinked}
 use Rattle.coordinator.proofs.KeptNext.{state}
 use Rattle.coordinator.proofs.MergedRoutes.{end_at}
 use Rattle.coordinator.specs.Kept.{IsKept}
@@ -45,7 +45,7 @@ begin_as end d [] long = absurd (omega arith)
 begin_as end d (a ∷ bs) long = same_test end.0 a.0
 
 -- over the tables
-module _ (c : Inside) (kept : IsKept c) (r : ℕ) (cells : List CellNo) (known : r < length c.starts.items) (free : false ≡ is_some (backlogs.route_of c.tables.deferrals r)) where
+module _ (c : Inside) (kept : IsKept c) (r : ℕ) (cells : List CellNo) (known : r < length c.from.at.items) (free : false ≡ is_some (backlogs.route_of c.tables.deferrals r)) where
   abbrev s : State
   s = state c kept
 

@@ -17,7 +17,7 @@ use Rattle.fleet_model.specs.Sites.{IsSite, steps}
 use Rattle.fleet_model.specs.Plans.{IsBlocker, end_of}
 use Rattle.fleet_model.specs.Deferral.{is_shut_to}
 use Rattle.fleet_model.specs.States.{State, is_full, is_robot, pending_of}
-use Rattle.fleet_model.specs.Calls.{Replan, Step, accepted, detour_of, first_of, replan, span_of, with_route}
+use Rattle.fleet_model.specs.Calls.{Replan, Step, accepted, detour_of, first_of, in_segment, merge_growth, replan, span_of, with_route}
 use Rattle.fleet_model.specs.Journals.{last_of}
 use Rattle.fleet_model.proofs.Accepted.{IsReplanned, replanned as found_detour}
 use Rattle.fleet_model.proofs.Detours.{detour_free, detour_least, detour_route, detour_to_last}
@@ -59,7 +59,7 @@ module _ (s : State) (r : ℕ) (goal : CellNo → Bool) (route : List CellNo) (i
   pub full : is_full s (length (steps s.fleet.site route)) ≡ true → (replan s r goal).answer ≡ Err refused.Full
   full no_room = rw (lt-ltb r (length s.fleet.starts) is.robot, none_is (pending_of s r) is.pending, is.away, is.found, no_room) refl
 
-  pub replanned : is_full s (length (steps s.fleet.site route)) ≡ false → replan s r goal ≡ accepted (span_of s route) r (act.Replanned route (first_of s)) (with_route s r route)
+  pub replanned : is_full s (length (steps s.fleet.site route)) ≡ false → replan s r goal ≡ accepted (span_of s route) r (act.Replanned route (first_of s)) (in_segment s (merge_growth s route) (with_route s r route))
   replanned room = rw (lt-ltb r (length s.fleet.starts) is.robot, none_is (pending_of s r) is.pending, is.away, is.found, room) refl
 
 -- a detour is the detour to its last cell alone
@@ -81,8 +81,8 @@ pub detour_merges : (s : State) (r : ℕ) (goal : CellNo → Bool) (route : List
 detour_merges s r goal route kinds path d site is room are same =
     let done = replanned s r (has_cell (last_of route)) route (to_last s r goal route site is) room in
     subst (λ w. WouldMerge s r kinds (get_or route (length route - 1) d) (act.Replanned w (first_of s))) (sym same)
-    (would_merge s r route kinds (act.Replanned route (first_of s)) (Replan (last_of route)) d is.robot (detour_route s.fleet r goal route site is.away is.found) are
-    (ap (λ (t : Step Span ReplanRefused). t.entry) done) (ap (λ (t : Step Span ReplanRefused). t.after) done))
+    (would_merge s r route kinds (act.Replanned route (first_of s)) (Replan (last_of route)) (merge_growth s route) d is.robot (detour_route s.fleet r goal route site is.away is.found) are
+    (ap (λ (t : Step Span ReplanRefused). t.entry) done) (ap length are) room (ap (λ (t : Step Span ReplanRefused). t.after) done))
 
 same_route : (v w : List CellNo) (m n : EventNo) → act.Replanned v m ≡ act.Replanned w n → v ≡ w
 same_route v w m n e = cc
@@ -109,7 +109,9 @@ module _ (s : State) (r : ℕ) (goal : CellNo → Bool) (robot : RobotNo) (route
   pub entry_free : IsSite s.fleet.site → (claim : ClaimNo) (q : ℕ) → IsBlocker s.fleet r route claim q → ⊥
   entry_free site claim q blocks = detour_free s.fleet r goal site found.route found.found claim q (subst (λ w. IsBlocker s.fleet r w claim q) (sym its_route) blocks)
 
+  -- the replan to the last cell of its route alone gives the same
+  pub replan_to_last : IsSite s.fleet.site → replan s r (has_cell (last_of route)) ≡ replan s r goal
+  replan_to_last site = subst (λ w. replan s r (has_cell (last_of w)) ≡ replan s r goal) its_route (same_to_last s r goal found.route site its_detour its_room)
+
   pub entry_to_last : IsSite s.fleet.site → (replan s r (has_cell (last_of route))).entry ≡ Some (record { robot = robot; act = act.Replanned route first })
-  entry_to_last site =
-      subst (λ w. (replan s r (has_cell (last_of w))).entry ≡ Some (record { robot = robot; act = act.Replanned route first })) its_route
-      (ap (λ (t : Step Span ReplanRefused). t.entry) (same_to_last s r goal found.route site its_detour its_room) ∙ gives)
+  entry_to_last site = ap (λ (t : Step Span ReplanRefused). t.entry) (replan_to_last site) ∙ gives

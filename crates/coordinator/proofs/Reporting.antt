@@ -28,7 +28,7 @@ use Rattle.coordinator.specs.Books.{with_entries}
 use Rattle.coordinator.specs.Endings.{IsReportable}
 use Rattle.coordinator.specs.Kept.{IsKept, Shows, shown}
 use Rattle.std.specs.Option.{option_to_list}
-use Rattle.coordinator.proofs.KeptNext.{counted_is, good, kept_next, robot_is, site_is, state}
+use Rattle.coordinator.proofs.KeptNext.{counted_is, good, kept_on, robot_is, site_is, state}
 use Rattle.coordinator.proofs.Transitions.{reported_shown}
 
 first_in : (es : List Event) (e : Event) → slice_get es 0 ≡ Some e → In e es
@@ -64,7 +64,7 @@ module _ (c : Inside) (kept : IsKept c) (r : ℕ) (e : Event) (n : EventNo) (nex
   pub looked_at : (on : Option EventNo) → AtNumber c.tables.graph.events n (λ f. on ≡ greatest_after c.tables.graph.groups c.tables.graph.events f) → look_at_next (state c kept).fleet (next_event (state c kept).fleet r) ≡ look_at_event e on
   looked_at on at = ap (look_at_next (state c kept).fleet) next_is ∙ ap (look_at_event e) (waits_is on at)
 
-  pub early_is : (on : EventNo) → r < length c.starts.items → waits_on (state c kept).fleet e ≡ Some on → report (state c kept) r n ≡ record { answer = Err (refused.Early on); entry = None; after = state c kept }
+  pub early_is : (on : EventNo) → r < length c.from.at.items → waits_on (state c kept).fleet e ≡ Some on → report (state c kept) r n ≡ record { answer = Err (refused.Early on); entry = None; after = state c kept }
   early_is on start waits = early (state c kept) r n on e (robot_is c kept r start) next_is same waits
 
 -- the robot's next event, which may be reported
@@ -96,9 +96,9 @@ module _ (c : Inside) (kept : IsKept c) (r : ℕ) (e : Event) (n : EventNo) (fou
       (len : vec_len journal ≡ vec_len c.journal + 1) (capacity : vec_capacity journal ≡ vec_capacity c.journal) where
     pub kept_then : IsKept (record c { journal = journal; tables = tables })
     kept_then =
-        kept_next c kept journal tables r (Report n) (record { robot = record { 0 = r }; act = act.Reported n }) (ap (λ (t : Step (Unit {0}) ReportRefused). t.entry) done_is) items
+        kept_on c kept journal tables r (Report n) (record { robot = record { 0 = r }; act = act.Reported n }) (ap (λ (t : Step (Unit {0}) ReportRefused). t.entry) done_is) items
         (subst (λ t. Shows tables t) (sym (ap (λ (t : Step (Unit {0}) ReportRefused). t.after) done_is)) (reported_shown c.tables tables s e kept.tables (good c kept) (site_is c kept) (counted_is c kept) ready.1 is))
-        (omega (arith, len, capacity, kept.room, is.owed))
+        (omega (arith, len, capacity, kept.room, is.owed)) (ap (λ (t : Step (Unit {0}) ReportRefused). t.after.base) done_is)
 
     pub book_then : shown (record c { journal = journal; tables = tables }) ≡ with_entries (shown c) (option_to_list (report s r n).entry)
     book_then = ap (λ es. record (shown c) { journal = es }) (items ∙ ap (λ (t : Step (Unit {0}) ReportRefused). c.journal.items ++ option_to_list t.entry) (sym done_is))

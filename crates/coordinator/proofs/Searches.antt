@@ -27,7 +27,7 @@ take_next xs i x at =
     let within = slice_get_within xs i x at in
     take_more xs i x within ∙ ap (λ y. take i xs ++ y ∷ []) (same_Some (get_or xs i x) x (sym (slice_get-get_or xs i x within) ∙ at))
 
-first_none : {A : Type 0} (o : Option A) → first_some (None ∷ o ∷ []) ≡ o
+pub first_none : {A : Type 0} (o : Option A) → first_some (None ∷ o ∷ []) ≡ o
 first_none None = refl
 first_none (Some x) = refl
 

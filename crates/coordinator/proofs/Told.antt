@@ -5,7 +5,7 @@ use Rattle.fleet_base.specs.declared.numbers.CellNo.{CellNo}
 use Rattle.fleet_base.specs.declared.numbers.ClaimNo.{ClaimNo}
 use Rattle.fleet_model.specs.Sites.{Site, footprint_of}
 use Rattle.deferral.specs.Backlogs.{Backlog}
-use Rattle.deferral.proofs.Relations.{blank_end}
+use Rattle.deferral.proofs.Blanks.{get_or-blank}
 
 -- so many robots' ends have the footprints of their starts, and the others none
 pub record AreTold (site : Site) (starts : List CellNo) (old new : Backlog) (count : ℕ) : Type 0 where
@@ -21,7 +21,7 @@ none_told site starts b is = record {
   pending = refl;
   ends = ap length is ∙ length-replicate (length starts) [];
   told = refl;
-  rest = λ k above. ap (λ es. get_or es k []) is ∙ blank_end (length starts) k [] refl;
+  rest = λ k above. ap (λ es. get_or es k []) is ∙ get_or-blank [] (length starts) k;
 }
 
 pub one_told : (site : Site) (starts : List CellNo) (old new : Backlog) (count : ℕ) (d : CellNo) → count < length starts → AreTold site starts old new count → AreTold site starts old (record new { ends = set new.ends count (footprint_of site (get_or starts count d)) }) (count + 1)

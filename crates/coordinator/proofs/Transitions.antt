@@ -52,6 +52,20 @@ same_shown t u s shows same = record {
   owed = same.owed ∙ shows.owed;
 }
 
+-- the tables don't tell where the segment begins
+pub based_shown : (t : Tables) (s : State) (base : ℕ) → Shows t s → Shows t (record s { base = base })
+based_shown t s base shows = record {
+  robots = shows.robots;
+  groups = shows.groups;
+  events = shows.events;
+  next = shows.next;
+  known = shows.known;
+  deferrals = (let d = shows.deferrals in record { groups = d.groups; routes = d.routes; needs = d.needs; ends = d.ends });
+  routes = shows.routes;
+  ends = shows.ends;
+  owed = shows.owed;
+}
+
 module _ (t u : Tables) (s : State) (r : ℕ) (shows : Shows t s) (good : IsGood s) (known : r < length s.fleet.starts) where
   -- nothing is pending of the robot
   abbrev pub free : Backlog

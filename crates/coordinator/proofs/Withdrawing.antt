@@ -32,7 +32,7 @@ use Rattle.coordinator.specs.Books.{with_entries}
 use Rattle.coordinator.specs.Changes.{IsCut, route_count}
 use Rattle.coordinator.specs.Endings.{end_without, IsRemoval}
 use Rattle.coordinator.specs.Kept.{IsKept, Shows, shown}
-use Rattle.coordinator.proofs.KeptNext.{good, kept_next, robot_is, state}
+use Rattle.coordinator.proofs.KeptNext.{good, kept_on, robot_is, state}
 use Rattle.coordinator.proofs.MergedRoutes.{end_cell_by}
 use Rattle.coordinator.proofs.Transitions.{cut_shown, pending_same}
 use Rattle.coordinator.proofs.WholeWalks.{end_from_cell}
@@ -119,9 +119,9 @@ module _ (c : Inside) (kept : IsKept c) (r : ℕ) (w : Withdrawn) (found : IsRem
 
     pub kept_then : IsKept (record c { journal = journal; tables = tables })
     kept_then =
-        kept_next c kept journal tables r Withdraw entry (ap (λ (t : Step Withdrawn WithdrawRefused). t.entry) withdraw_is) items_are
+        kept_on c kept journal tables r Withdraw entry (ap (λ (t : Step Withdrawn WithdrawRefused). t.entry) withdraw_is) items_are
         (subst (λ t. Shows tables t) (sym (ap (λ (t : Step Withdrawn WithdrawRefused). t.after) withdraw_is)) (cut_shown c.tables tables s r kept.tables (good c kept) (robot_is c kept r found.known) cut_here))
-        (omega (arith, len, capacity, kept.room, cut.owed, found.some))
+        (omega (arith, len, capacity, kept.room, cut.owed, found.some)) (ap (λ (t : Step Withdrawn WithdrawRefused). t.after.base) withdraw_is)
 
     pub book_then : shown (record c { journal = journal; tables = tables }) ≡ with_entries (shown c) (option_to_list (withdraw s r).entry)
     book_then = ap (λ es. record (shown c) { journal = es }) (items_are ∙ ap (λ (t : Step Withdrawn WithdrawRefused). c.journal.items ++ option_to_list t.entry) (sym withdraw_is))

@@ -6,3 +6,5 @@ pub mod Proposals
 pub mod Openings
 pub mod Endings
 pub mod Replans
+pub mod Resuming
+pub mod Lent

@@ -12,8 +12,8 @@ use Rattle.fleet_model.specs.Lists.{first_some, when}
 use Rattle.fleet_model.specs.Plans.{end_of}
 use Rattle.fleet_model.specs.Sites.{needs}
 use Rattle.fleet_model.specs.States.{State, block_of, cycle_of, is_robot, pending_of}
-use Rattle.merge_op.specs.declared.blockers.Blocker.{Blocker}
-use Rattle.merge_op.specs.Blocked.{IsSetOf}
+use Rattle.fleet_base.specs.declared.answers.Blocker.{Blocker}
+use Rattle.fleet_base.specs.ClaimSets.{IsSetOf}
 use Rattle.fleet_model.specs.Calls.{begin_at, deferring, unknown_at, unlinked_at}
 use Rattle.plan_events.specs.declared.refused.ShapeRefused.{ShapeRefused}
 use Rattle.plan_events.specs.declared.refused.ShapeRefused.TheVariants as shape_refused

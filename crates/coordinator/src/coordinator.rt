@@ -1,41 +1,48 @@
 //! The coordinator.
 
-ghost use Rattle.std.specs.Prelude.{◌≡◌, ◌<◌, ◌≤◌, ℕ, All, IfOk, IfErr, OnOk, None, [], length, slice_get};
+ghost use Rattle.std.specs.Prelude.{◌≡◌, ◌<◌, ◌≤◌, ℕ, All, IfOk, IfErr, OnOk, None, List, [], ◌∷◌, ◌++◌, length, take, slice_get};
 ghost use Rattle.std.specs.Option.{option_map};
 ghost use Rattle.fleet_base.specs.Lists.{robots_of};
 ghost use Rattle.fleet_base.specs.declared.numbers.Event.{Event};
 ghost use Rattle.fleet_model.specs.Good.{IsGood};
-ghost use Rattle.fleet_model.specs.Journals.{IsJournal};
+ghost use Rattle.fleet_base.specs.declared.marks.Mark.{Mark};
+ghost use Rattle.fleet_model.specs.Journals.{IsJournal, state_after};
+ghost use Rattle.fleet_model.specs.Segments.{StandAlone, entries_between, marks, segment_end};
 ghost use Rattle.fleet_model.specs.Plans.{cell_of, end_of, own, unfinished};
 ghost use Rattle.fleet_model.specs.Sites.{IsSite};
 ghost use Rattle.fleet_model.specs.States.{cycle_of, owed, pending_of};
 ghost use Rattle.fleet_model.specs.Tables.{held_by};
 ghost use Rattle.site_map.specs.Claims.{site_of};
-ghost use Rattle.coordinator.specs.Books.{opening_of, state_of};
+ghost use Rattle.coordinator.specs.Books.{opening_of, start_book, state_of};
+ghost use Rattle.coordinator.specs.Lent.{AnswersForPlan};
 ghost use Rattle.coordinator.specs.Openings.{IsRefusal, opening_cause};
 
-use crate::opening::{clash, tables_of};
+use crate::opening::{clash, first_marks, standing_at, tables_of};
 use crate::refused::NewRefused;
 use crate::tables::Tables;
 use cycle_cert::cycle_through;
+use event_graph::graph::EventGraph;
 use fleet_base::entries::Entry;
 use fleet_base::held::Held;
 use fleet_base::limits::{MAX_CAP, MAX_ROBOTS};
+use fleet_base::marks::{Checkpoint, Mark};
 use fleet_base::numbers::{CellNo, Event, EventNo, RobotNo};
 use fleet_base::robot_list::RobotList;
 use site_map::site::Site;
 use std::alloc::Global;
 use std::marker::Model;
 
-/// The coordinator of a fleet. Contracts see its site, where the robots started, its cap and the
-/// journal of all accepted calls; everything else about the fleet follows from these.
+/// The coordinator of a fleet. Contracts see its site, where the robots started, with which pending
+/// routes and which number, its cap and the journal of all accepted calls; everything else about the
+/// fleet follows from these.
 #[derive(Drop)]
 pub struct Coordinator {
     pub(crate) alloc: Global,
     pub(crate) site: Site,
-    pub(crate) starts: Vec<CellNo>,
+    pub(crate) from: Checkpoint,
     pub(crate) cap: u32,
     pub(crate) journal: Vec<Entry>,
+    pub(crate) marks: Vec<Mark>,
     pub(crate) tables: Tables,
 }
 
@@ -65,7 +72,7 @@ impl Coordinator {
         requires cap { cap ≤ MAX_CAP }
         ensures accepted { OnOk result (opening_cause (site_of site) starts.now ≡ None) }
         ensures refused { IfErr result (IsRefusal (opening_cause (site_of site) starts.now)) }
-        ensures book { IfOk result (λ c. c ≡ record { site = site; starts = starts.now; cap = cap; journal = [] }) }
+        ensures book { IfOk result (λ c. c ≡ start_book site starts.now cap) }
     {
         if starts.is_empty() {
             return Err(NewRefused::NoRobot);
@@ -73,18 +80,20 @@ impl Coordinator {
         if let Some(clash) = clash(&site, starts) {
             return Err(clash);
         }
-        let (Ok(tables), Ok(kept)) = (
-            tables_of(alloc, &site, starts),
-            Vec::from_slice(alloc, starts),
+        let (Ok(tables), Ok(from), Ok(marks)) = (
+            tables_of(alloc, &site, starts, EventNo(1)),
+            standing_at(alloc, starts),
+            first_marks(alloc, EventNo(1)),
         ) else {
             return Err(NewRefused::NoMemory);
         };
         Ok(Coordinator {
             alloc,
             site,
-            starts: kept,
+            from,
             cap,
             journal: Vec::new(alloc),
+            marks,
             tables,
         })
     }
@@ -93,8 +102,10 @@ impl Coordinator {
     pub fn robots(&self) -> u32
         ensures starts { result ≡ length self.now.starts }
         ensures state { result ≡ length (state_of self.now).fleet.starts }
+        ensures some { 0 < result }
+        ensures few { result ≤ MAX_ROBOTS }
     {
-        self.starts.len() as u32
+        self.from.at.len() as u32
     }
 
     /// The journal of all accepted calls. What every coordinator keeps is said here.
@@ -104,8 +115,26 @@ impl Coordinator {
         ensures site { IsSite (site_of self.now.site) }
         ensures opening { IsGood (opening_of self.now) }
         ensures state { IsGood (state_of self.now) }
+
+        // What no call changes, and how many calls were accepted.
+        ensures starts { All (λ a. a.0 < self.now.site.cells) self.now.starts }
+        ensures same_site { (state_of self.now).fleet.site ≡ site_of self.now.site }
+        ensures same_starts { (state_of self.now).fleet.starts ≡ self.now.starts }
+        ensures same_cap { (state_of self.now).cap ≡ self.now.cap }
+        ensures count { (state_of self.now).count ≡ length self.now.journal }
     {
         &self.journal
+    }
+
+    /// The marks of the journal: at its opening, and before each entry that opens a segment. For each
+    /// of them the entries up to the next, or to the end, stand alone.
+    pub fn marks(&self) -> &[Mark]
+        ensures marks { result.now ≡ marks (opening_of self.now) self.now.journal }
+        ensures segments { (earlier : List Mark) (mark : Mark) (later : List Mark) → result.now ≡ earlier ++ mark ∷ later
+            → StandAlone (state_after (opening_of self.now) (take mark.before self.now.journal))
+            (entries_between mark.before (segment_end later self.now.journal) self.now.journal) }
+    {
+        &self.marks
     }
 
     /// The site.
@@ -118,14 +147,26 @@ impl Coordinator {
     /// The cell that the robot started in.
     pub fn start(&self, robot: RobotNo) -> CellNo
         requires { robot.0 < length self.now.starts }
-        ensures { slice_get self.now.starts robot.0 ≡ Some result }
+        ensures value { slice_get self.now.starts robot.0 ≡ Some result }
+        ensures known { result.0 < self.now.site.cells }
     {
-        self.starts[robot.0 as usize]
+        self.from.at[robot.0 as usize]
     }
 
-    /// The most that the journal's entries and what is owed may be together.
+    /// What the robots started with: the first number of the run, and each robot's cell and pending
+    /// route.
+    pub fn opening(&self) -> &Checkpoint
+        ensures next { result.now.next.0 ≡ self.now.first }
+        ensures at { result.now.at.items ≡ self.now.starts }
+        ensures pending { result.now.pending.items ≡ self.now.pending }
+    {
+        &self.from
+    }
+
+    /// The most that the entries of the current segment and what is owed may be together.
     pub fn cap(&self) -> u32
-        ensures { result ≡ self.now.cap }
+        ensures value { result ≡ self.now.cap }
+        ensures small { result ≤ MAX_CAP }
     {
         self.cap
     }
@@ -144,10 +185,22 @@ impl Coordinator {
         self.tables.graph.next_number()
     }
 
+    /// The graph of the unfinished events. What it answers of them is what the whole plan gives.
+    pub fn graph(&self) -> &EventGraph
+        ensures robots { result.now.robots ≡ length self.now.starts }
+        ensures groups { result.now.groups ≡ (site_of self.now.site).groups }
+        ensures events { result.now.events ≡ unfinished (state_of self.now).fleet }
+        ensures next { result.now.next ≡ (state_of self.now).fleet.next }
+        ensures plan { AnswersForPlan result.now (state_of self.now).fleet }
+    {
+        &self.tables.graph
+    }
+
     /// The cell that the robot is in, by what was reported.
     pub fn at(&self, robot: RobotNo) -> CellNo
         requires { robot.0 < length self.now.starts }
-        ensures { result ≡ cell_of (state_of self.now).fleet robot.0 }
+        ensures value { result ≡ cell_of (state_of self.now).fleet robot.0 }
+        ensures known { result.0 < self.now.site.cells }
     {
         self.tables.robots.at(robot)
     }
@@ -155,7 +208,8 @@ impl Coordinator {
     /// The cell that the robot is in after all its events in the plan.
     pub fn end(&self, robot: RobotNo) -> CellNo
         requires { robot.0 < length self.now.starts }
-        ensures { result ≡ end_of (state_of self.now).fleet robot.0 }
+        ensures value { result ≡ end_of (state_of self.now).fleet robot.0 }
+        ensures known { result.0 < self.now.site.cells }
     {
         self.tables.robots.end(robot)
     }

@@ -12,6 +12,7 @@ mod propose;
 pub mod refused;
 mod replan;
 mod report;
+mod resuming;
 mod retry;
 mod shut;
 mod tables;

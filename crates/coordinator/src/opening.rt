@@ -1,9 +1,9 @@
 //! What a coordinator opens with.
 
-ghost use Rattle.std.specs.Prelude.{◌≡◌, ◌+◌, ◌<◌, ◌≤◌, ℕ, All, IfOk, [], length, map, replicate};
+ghost use Rattle.std.specs.Prelude.{◌≡◌, ◌+◌, ◌<◌, ◌≤◌, ℕ, All, IfOk, None, [], ◌∷◌, length, map, replicate};
 ghost use Rattle.fleet_model.specs.Sites.{IsSite, footprint_of};
 ghost use Rattle.fleet_model.specs.Tables.{IsCounted};
-ghost use Rattle.fleet_model.specs.States.{start_state};
+ghost use Rattle.fleet_model.specs.States.{opening_state};
 ghost use Rattle.site_map.specs.Claims.{site_of};
 ghost use Rattle.coordinator.specs.Kept.{Shows};
 ghost use Rattle.coordinator.specs.Openings.{clash_from, clash_with, kept_claim};
@@ -13,6 +13,7 @@ use crate::tables::Tables;
 use deferral::Deferrals;
 use event_graph::graph::EventGraph;
 use fleet_base::claims::Claims;
+use fleet_base::marks::{Checkpoint, Mark};
 use fleet_base::numbers::{CellNo, ClaimGroup, ClaimNo, EventNo, RobotNo};
 use fleet_base::path::NoMemory;
 use robot_tables::tables::RobotTables;
@@ -65,11 +66,45 @@ fn first_kept(site: &Site, one: CellNo, other: CellNo) -> Option<ClaimNo>
     None
 }
 
-// The tables of robots that start in these cells.
-pub(crate) fn tables_of(alloc: Global, site: &Site, starts: &[CellNo]) -> Result<Tables, NoMemory>
+// The checkpoint of robots that stand in these cells with nothing pending, in a run that begins with
+// number 1.
+pub(crate) fn standing_at(alloc: Global, starts: &[CellNo]) -> Result<Checkpoint, NoMemory>
+    ensures at { IfOk result (λ from. from.at.items ≡ starts.now) }
+    ensures pending { IfOk result (λ from. from.pending.items ≡ map (λ a. None) starts.now) }
+    ensures next { IfOk result (λ from. from.next ≡ record { 0 = 1 }) }
+{
+    let at = Vec::from_slice(alloc, starts)?;
+    let mut pending = Vec::with_capacity(alloc, starts.len())?;
+    for _start in starts {
+        pending.push_reserved(None);
+    }
+    Ok(Checkpoint {
+        next: EventNo(1),
+        at,
+        pending,
+    })
+}
+
+// The marks of a journal without entries, in a run that begins with this number.
+pub(crate) fn first_marks(alloc: Global, next: EventNo) -> Result<Vec<Mark>, NoMemory>
+    ensures { IfOk result (λ marks. marks.items ≡ record { before = 0; next = next } ∷ []) }
+{
+    let mut marks = Vec::with_capacity(alloc, 1)?;
+    marks.push_reserved(Mark { before: 0, next });
+    Ok(marks)
+}
+
+// The tables of robots that start in these cells with nothing pending, in a run that begins with this
+// number.
+pub(crate) fn tables_of(
+    alloc: Global,
+    site: &Site,
+    starts: &[CellNo],
+    next: EventNo,
+) -> Result<Tables, NoMemory>
     requires few { length starts.now ≤ 64 }
     requires known { All (λ a. a.0 < site.now.cells) starts.now }
-    ensures tables { IfOk result (λ t. (cap : ℕ) → Shows t (start_state (site_of site.now) starts.now cap)) }
+    ensures tables { IfOk result (λ t. (cap : ℕ) → Shows t (opening_state (site_of site.now) starts.now (map (λ a. None) starts.now) next.0 cap)) }
     ensures site { IsSite (site_of site.now) }
     ensures counted { IsCounted (site_of site.now) }
 {
@@ -79,7 +114,7 @@ pub(crate) fn tables_of(alloc: Global, site: &Site, starts: &[CellNo]) -> Result
     let mut deferrals = Deferrals::new(alloc, &groups, robots)?;
     tell_starts(alloc, &mut deferrals, site, starts);
     Ok(Tables {
-        graph: EventGraph::new(alloc, robots, &groups, EventNo(1))?,
+        graph: EventGraph::new(alloc, robots, &groups, next)?,
         robots: RobotTables::new(alloc, site, starts)?,
         deferrals,
         owed: 0,

@@ -10,13 +10,12 @@ ghost use Rattle.coordinator.specs.Books.{book_after, IsAnswer, state_of};
 ghost use Rattle.coordinator.specs.Proposals.{early_cause, of_shape, refused_or, WouldDefer};
 
 use crate::coordinator::Coordinator;
-use crate::merging::Merging;
-use fleet_base::answers::{ProposeRefused, Proposed};
+use crate::merging::{Merging, put_mark};
+use fleet_base::answers::{Blocker, ProposeRefused, Proposed};
 use fleet_base::claim_set::ClaimSet;
 use fleet_base::entries::{Act, Entry};
 use fleet_base::numbers::{CellNo, RobotNo};
 use fleet_base::path::Path;
-use merge_op::blockers::Blocker;
 use plan_events::expansion::{expand, needs};
 use plan_events::refused::ShapeRefused;
 use plan_events::shape::check_shape;
@@ -29,7 +28,7 @@ impl Coordinator {
     {
         let events = self.check_proposal(robot, cells)?;
         let needed = needs(&self.site, cells);
-        match self.tables.blocker(&self.site, robot, &needed) {
+        match self.tables.blocker(robot, &needed) {
             None => self.merge_proposal(robot, cells, events),
             Some(blocker) => self.defer_proposal(robot, cells, needed, blocker),
         }
@@ -81,15 +80,18 @@ impl Coordinator {
         if self.is_full(2) {
             return Err(ProposeRefused::Full);
         }
-        let (Ok(route), Ok(pending), Ok(())) = (
+        let mark = self.new_mark(2);
+        let (Ok(route), Ok(pending), Ok(()), Ok(())) = (
             Path::copy_of(self.alloc, cells),
             Path::copy_of(self.alloc, cells),
             self.journal.reserve(self.tables.owed as usize + 2),
+            self.marks.reserve(1),
         ) else {
             return Err(ProposeRefused::NoMemory);
         };
         self.tables.defer(robot, pending, needed);
         let block = self.tables.block(robot, blocker);
+        put_mark(&mut self.marks, mark);
         self.journal.push_reserved(Entry {
             robot,
             act: Act::Deferred {

@@ -2,6 +2,21 @@
 
 use fleet_base::numbers::{ClaimNo, RobotNo};
 
+/// Why a coordinator doesn't go on from a checkpoint; the first cause in this order.
+#[derive(Clone, Copy, Debug, PartialEq, Eq)]
+pub enum ResumeRefused {
+    /// No coordinator has these starts.
+    New(NewRefused),
+    /// The number isn't from 1 to 100,000,000,000,000.
+    BadNext,
+    /// The least robot whose pending route isn't a legal route from its cell.
+    BadPending(RobotNo),
+    /// More routes are pending than the cap has room for.
+    Crowded,
+    /// No memory was left.
+    NoMemory,
+}
+
 /// Why a coordinator isn't made; the first cause in this order.
 #[derive(Clone, Copy, Debug, PartialEq, Eq)]
 pub enum NewRefused {

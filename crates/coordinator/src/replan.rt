@@ -74,8 +74,9 @@ impl Coordinator {
         })
     }
 
-    // The robot's detour to the goal, or why there is none to be taken.
-    fn detour(&self, robot: RobotNo, goal: &CellSet) -> Result<Route, ReplanRefused>
+    /// The robot's detour to the goal, which `replan` would merge; or why it would take none. Whether
+    /// there is room for the detour isn't asked.
+    pub fn detour(&self, robot: RobotNo, goal: &CellSet) -> Result<Route, ReplanRefused>
         ensures refused { IfErr result (λ refused. IsReplanAnswer (Err refused)
             (replan (state_of self.now) robot.0 (has goal.now)).answer) }
         ensures detour { IfOk result (λ route. IsDetour (state_of self.now) robot.0 (has goal.now) route.path) }

@@ -70,7 +70,7 @@ impl Coordinator {
     {
         let cells = self.tables.deferrals.pending(robot)?;
         let needed = needs(&self.site, cells);
-        let blocker = self.tables.blocker(&self.site, robot, &needed)?;
+        let blocker = self.tables.blocker(robot, &needed)?;
         Some(self.tables.block(robot, blocker))
     }
 }

@@ -1,6 +1,6 @@
 //! What a state is kept in.
 
-ghost use Rattle.std.specs.Prelude.{◌≡◌, ◌<◌, ◌≤◌, ◌+◌, ◌-◌, ◌^◌, ◌++◌, length, true, ℕ, List, None, All, IfOk, OnOk, OnErr};
+ghost use Rattle.std.specs.Prelude.{◌≡◌, ◌<◌, ◌≤◌, ◌+◌, ◌-◌, ◌^◌, ◌++◌, length, List, None, IfOk, OnOk, OnErr};
 ghost use Rattle.fleet_base.specs.declared.numbers.Kind.{Kind};
 ghost use Rattle.fleet_base.specs.Lists.{robots_of};
 ghost use Rattle.fleet_base.specs.declared.numbers.ClaimNo.{ClaimNo};
@@ -8,27 +8,29 @@ ghost use Rattle.fleet_model.specs.Deferral.{least_blocker};
 ghost use Rattle.fleet_model.specs.Good.{IsGood};
 ghost use Rattle.fleet_model.specs.Lists.{In};
 ghost use Rattle.fleet_model.specs.States.{State, cycle_of};
-ghost use Rattle.merge_op.specs.Blocked.{IsSetOf, pair_of};
+ghost use Rattle.fleet_base.specs.Blockers.{pair_of};
+ghost use Rattle.fleet_base.specs.ClaimSets.{IsSetOf};
 ghost use Rattle.coordinator.specs.Kept.{Shows};
-ghost use Rattle.std.specs.FinSet as set;
 ghost use Rattle.std.specs.Option.{is_some, option_map};
 ghost use Rattle.fleet_model.specs.Sites.{footprint_of};
 ghost use Rattle.fleet_model.specs.Plans.{numbered, own};
-ghost use Rattle.site_map.specs.Claims.{claim_total, site_of};
+ghost use Rattle.site_map.specs.Built.{BuiltSite};
+ghost use Rattle.site_map.specs.Claims.{site_of};
 ghost use Rattle.event_graph.specs.Graphs.{AreApart, HasReady, IsKnown, IsUnawaited, tail_of};
 ghost use Rattle.robot_tables.specs.Robots.{HasPlaceFor, holding_at, with_end};
 ghost use Rattle.deferral.specs.Backlogs.{pending_of, route_of};
+ghost use Rattle.deferral.specs.Laws.{ShowsEnds};
 ghost use Rattle.coordinator.specs.Changes.{AreSame, IsCut, IsDeferred, IsDropped, IsReported, IsSettled, IsTold, route_count, with_end_claims};
 
 use cycle_cert::cycle_through;
-use deferral::Deferrals;
+use deferral::{Deferrals, blockers_are_those_of_sites};
 use event_graph::graph::EventGraph;
-use fleet_base::answers::Block;
+use fleet_base::answers::{Block, Blocker};
 use fleet_base::claim_set::ClaimSet;
 use fleet_base::limits::MAX_ROBOTS;
 use fleet_base::numbers::{CellNo, Event, Kind, RobotNo, Span};
 use fleet_base::path::{NoMemory, Path};
-use merge_op::blockers::{Blocker, least_blocker};
+use merge_op::blockers::least_blocker;
 use merge_op::merging::merge;
 use robot_tables::tables::RobotTables;
 use site_map::site::Site;
@@ -52,14 +54,14 @@ impl Tables {
     }
 
     // The least blocker of a route of the robot that needs these claims.
-    pub(crate) fn blocker(&self, site: &Site, robot: RobotNo, needs: &ClaimSet) -> Option<Blocker>
-        requires ends { All (λ a. a.0 < site.now.cells) self.now.robots.ends }
-        requires few { length self.now.robots.ends ≤ MAX_ROBOTS }
-        requires needs { (n : ℕ) → set.contains needs.now n ≡ true → n < claim_total site.now }
-        ensures { (claims : List ClaimNo) → IsSetOf needs.now claims → option_map pair_of result
-            ≡ least_blocker (site_of site.now) self.now.robots.ends robot.0 claims }
+    pub(crate) fn blocker(&self, robot: RobotNo, needs: &ClaimSet) -> Option<Blocker>
+        requires { robot.0 < length self.now.deferrals.pending }
+        ensures { (site : BuiltSite) (claims : List ClaimNo) → ShowsEnds self.now.deferrals (site_of site) self.now.robots.ends
+            → IsSetOf needs.now claims
+            → option_map pair_of result ≡ least_blocker (site_of site) self.now.robots.ends robot.0 claims }
     {
-        least_blocker(site, self.robots.ends(), robot, needs)
+        blockers_are_those_of_sites();
+        self.deferrals.blocker(robot, needs)
     }
 
     // The blocker, with the cycle of deferrals through the robot.

@@ -6,3 +6,4 @@ pub mod Finding
 pub mod Missing
 pub mod Legal
 pub mod Replaying
+pub mod Routes

@@ -13,7 +13,7 @@ returns-clause-tables c = λ cap.
     let site = site_of c.args.site.now in
     let groups = c.deref.ensures.value ∙ c.in_ok-groups.ensures.groups in
     let groups' = c.deref-2.ensures.value ∙ c.in_ok-groups.ensures.groups in
-    opening_shown site starts cap c.cell_count-cells.ensures.site c.cell_count-cells.ensures.counted
+    opening_shown site starts c.args.next.0 cap c.cell_count-cells.ensures.site c.cell_count-cells.ensures.counted
     (record { graph = c.in_ok-new.field-0; robots = c.in_ok-new-2.field-0; deferrals = c.tell_starts.new.deferrals; owed = 0 })
     c.in_ok-new.ensures.robots (c.in_ok-new.ensures.groups ∙ groups') c.in_ok-new.ensures.events c.in_ok-new.ensures.next
     c.in_ok-new-2.ensures.ends c.in_ok-new-2.ensures.places c.in_ok-new-2.ensures.holdings

@@ -17,7 +17,7 @@ end-end-requires c =
     let k = c.self.invariant in
     let r = c.args.robot.0 in
     let cells = c.args.cells.now in
-    let known : r < length i.starts.items = omega (arith, c.if-robot-robots.false, c.robots.ensures.starts, ap (λ (b : Book). length b.starts) c.self.view_is) in
+    let known : r < length i.from.at.items = omega (arith, c.if-robot-robots.false, c.robots.ensures.starts, ap (λ (b : Book). length b.starts) c.self.view_is) in
     tables_known i k r (robot_is i k r known)
 
 pub returns-then-ne-clause-answer : goal.returns-then-ne-clause-answer
@@ -26,7 +26,7 @@ returns-then-ne-clause-answer c =
     let k = c.self.invariant in
     let r = c.args.robot.0 in
     let cells = c.args.cells.now in
-    let known : r < length i.starts.items = omega (arith, c.if-robot-robots.false, c.robots.ensures.starts, ap (λ (b : Book). length b.starts) c.self.view_is) in
+    let known : r < length i.from.at.items = omega (arith, c.if-robot-robots.false, c.robots.ensures.starts, ap (λ (b : Book). length b.starts) c.self.view_is) in
     let cause = cause_is i k r cells known c.if-is_waiting.ensures c.in-Ok.ensures.accepted c.end-end.result c.end-end.ensures (record { 0 = 0 }) true c.if-ne.ensures in
     subst (λ (b : Book). Err (refused.BadStart c.end-end.result) ≡ refused_or (early_cause (state_of b) r cells) (length (steps (site_of b.site) cells))) c.self.view_is
     (ap (λ o. refused_or o (length (steps (site_of i.site) cells))) (sym cause))
@@ -37,7 +37,7 @@ returns-clause-answer c =
     let k = c.self.invariant in
     let r = c.args.robot.0 in
     let cells = c.args.cells.now in
-    let known : r < length i.starts.items = omega (arith, c.if-robot-robots.false, c.robots.ensures.starts, ap (λ (b : Book). length b.starts) c.self.view_is) in
+    let known : r < length i.from.at.items = omega (arith, c.if-robot-robots.false, c.robots.ensures.starts, ap (λ (b : Book). length b.starts) c.self.view_is) in
     let cause = cause_is i k r cells known c.if-is_waiting.ensures c.in-Ok.ensures.accepted c.end-end.result c.end-end.ensures (record { 0 = 0 }) false c.if-ne.ensures in
     let told : Ok c.in-Ok.events ≡ Ok (length (steps (site_of i.site) cells)) = c.in-Ok.ensures.answer ∙ ap (λ o. shapes.refused_or o (length (steps (site_of i.site) cells))) c.in-Ok.ensures.accepted in
     let count : c.in-Ok.events ≡ length (steps (site_of i.site) cells) = cc in

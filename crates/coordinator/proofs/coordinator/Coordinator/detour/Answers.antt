@@ -18,8 +18,8 @@ holds-requires c =
     let i = c.self.inside in
     let k = c.self.invariant in
     let r = c.args.robot.0 in
-    let known : r < length i.starts.items = omega (arith, c.if-robot-robots.false, c.robots.ensures.starts, ap (λ (b : Book). length b.starts) c.self.view_is) in
-    let ends : c.end-end.result ≡ end_of (state i k).fleet r = subst (λ (b : Book). c.end-end.result ≡ end_of (state_of b).fleet r) (sym c.self.view_is) c.end-end.ensures in
+    let known : r < length i.from.at.items = omega (arith, c.if-robot-robots.false, c.robots.ensures.starts, ap (λ (b : Book). length b.starts) c.self.view_is) in
+    let ends : c.end-end.result ≡ end_of (state i k).fleet r = subst (λ (b : Book). c.end-end.result ≡ end_of (state_of b).fleet r) (sym c.self.view_is) c.end-end.ensures.value in
     end_small i k r known c.end-end.result ends
 
 pub shut_cells-shut-requires : goal.shut_cells-shut-requires
@@ -31,8 +31,8 @@ least_route-requires c =
     let i = c.self.inside in
     let k = c.self.invariant in
     let r = c.args.robot.0 in
-    let known : r < length i.starts.items = omega (arith, c.if-robot-robots.false, c.robots.ensures.starts, ap (λ (b : Book). length b.starts) c.self.view_is) in
-    let ends : c.end-end.result ≡ end_of (state i k).fleet r = subst (λ (b : Book). c.end-end.result ≡ end_of (state_of b).fleet r) (sym c.self.view_is) c.end-end.ensures in
+    let known : r < length i.from.at.items = omega (arith, c.if-robot-robots.false, c.robots.ensures.starts, ap (λ (b : Book). length b.starts) c.self.view_is) in
+    let ends : c.end-end.result ≡ end_of (state i k).fleet r = subst (λ (b : Book). c.end-end.result ≡ end_of (state_of b).fleet r) (sym c.self.view_is) c.end-end.ensures.value in
     end_below i k r known c.end-end.result ends
 
 pub returns-in-Ok-clause-detour : goal.returns-in-Ok-clause-detour
@@ -40,8 +40,8 @@ returns-in-Ok-clause-detour c =
     let i = c.self.inside in
     let k = c.self.invariant in
     let r = c.args.robot.0 in
-    let known : r < length i.starts.items = omega (arith, c.if-robot-robots.false, c.robots.ensures.starts, ap (λ (b : Book). length b.starts) c.self.view_is) in
-    let ends : c.end-end.result ≡ end_of (state i k).fleet r = subst (λ (b : Book). c.end-end.result ≡ end_of (state_of b).fleet r) (sym c.self.view_is) c.end-end.ensures in
+    let known : r < length i.from.at.items = omega (arith, c.if-robot-robots.false, c.robots.ensures.starts, ap (λ (b : Book). length b.starts) c.self.view_is) in
+    let ends : c.end-end.result ≡ end_of (state i k).fleet r = subst (λ (b : Book). c.end-end.result ≡ end_of (state_of b).fleet r) (sym c.self.view_is) c.end-end.ensures.value in
     let are = λ (a : CellNo). c.shut_cells-shut.ensures a ∙ ap (λ es. is_shut_by (site_of i.site) es r a) c.ends.ensures in
     subst (λ (b : Book). IsDetour (state_of b) r (has c.args.goal.now) c.in-Ok.route.path) c.self.view_is
     (is_detour i k r known c.end-end.result ends (has c.args.goal.now) (has c.shut_cells-shut.result) are c.if-not-is_waiting.ensures c.if-holds.ensures c.in-Ok.route.path c.in-Ok.ensures.found.path)
@@ -51,8 +51,8 @@ returns-in-Err-Unreachable-clause-refused c =
     let i = c.self.inside in
     let k = c.self.invariant in
     let r = c.args.robot.0 in
-    let known : r < length i.starts.items = omega (arith, c.if-robot-robots.false, c.robots.ensures.starts, ap (λ (b : Book). length b.starts) c.self.view_is) in
-    let ends : c.end-end.result ≡ end_of (state i k).fleet r = subst (λ (b : Book). c.end-end.result ≡ end_of (state_of b).fleet r) (sym c.self.view_is) c.end-end.ensures in
+    let known : r < length i.from.at.items = omega (arith, c.if-robot-robots.false, c.robots.ensures.starts, ap (λ (b : Book). length b.starts) c.self.view_is) in
+    let ends : c.end-end.result ≡ end_of (state i k).fleet r = subst (λ (b : Book). c.end-end.result ≡ end_of (state_of b).fleet r) (sym c.self.view_is) c.end-end.ensures.value in
     let are = λ (a : CellNo). c.shut_cells-shut.ensures a ∙ ap (λ es. is_shut_by (site_of i.site) es r a) c.ends.ensures in
     subst (λ (b : Book). IsReplanAnswer (Err refused.NoDetour) (replan (state_of b) r (has c.args.goal.now)).answer) c.self.view_is
     (inl (sym (none_there i k r known c.end-end.result ends (has c.args.goal.now) (has c.shut_cells-shut.result) are c.if-not-is_waiting.ensures c.if-holds.ensures (c.in-Err-Unreachable.ensures.unreachable c.in-Err-Unreachable.field-0-is))))

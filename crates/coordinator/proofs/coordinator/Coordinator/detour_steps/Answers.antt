@@ -25,7 +25,7 @@ event_count-requires c =
     let is : IsDetour s r to cells =
     subst (λ (b : Book). IsDetour (state_of b) r to cells) (sym c.self.view_is)
     (subst (λ (w : List CellNo). IsDetour (state_of c.args.self.now) r to w) (sym c.cells-cells.ensures) c.in_ok-route.ensures.detour) in
-    shape_is i k r cells is.robot (detour_route s.fleet r to cells (site_is i k) is.away is.found)
+    shape_is i k r cells (detour_route s.fleet r to cells (site_is i k) is.away is.found)
 
 pub returns-clause-merges : goal.returns-clause-merges
 returns-clause-merges c =

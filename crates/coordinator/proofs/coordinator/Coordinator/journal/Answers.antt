@@ -8,4 +8,4 @@ use Rattle.coordinator.proofs.coordinator.Coordinator.journal.Goals as goal
 pub returns-clause-opening : goal.returns-clause-opening
 returns-clause-opening c =
     let i = c.self.inside in
-    subst (λ (b : Book). IsGood (opening_of b)) c.self.view_is (opening_good (site_of i.site) i.starts.items (map (λ a. None) i.starts.items) 1 i.cap c.self.invariant.opening)
+    subst (λ (b : Book). IsGood (opening_of b)) c.self.view_is (opening_good (site_of i.site) i.from.at.items i.from.pending.items i.from.next.0 i.cap c.self.invariant.opening)

@@ -1,14 +1,13 @@
-use Rattle.std.proofs.Common.{◌≡◌, ◌<◌, length, Some, None, ap, sym, subst, ◌∙◌, arith}
+use Rattle.std.proofs.Common.{◌≡◌, Some, None, ap, sym, subst, ◌∙◌}
 use Rattle.std.proofs.lemmas.Option.{same_Some}
 use Rattle.std.specs.Option.{option_map}
 use Rattle.fleet_model.specs.Sites.{needs}
-use Rattle.merge_op.specs.Blocked.{pair_of}
+use Rattle.fleet_base.specs.Blockers.{pair_of}
 use Rattle.fleet_model.specs.States.{block_of, pending_of}
 use Rattle.site_map.specs.Claims.{site_of}
 use Rattle.coordinator.specs.Books.{Book, state_of}
-use Rattle.coordinator.proofs.KeptNext.{good, robot_is, state}
-use Rattle.coordinator.proofs.PendingRoutes.{block_made, ends_known, ends_same, few_ends, legal, shape_is, waits}
-use Rattle.coordinator.proofs.Routes.{needs_below}
+use Rattle.coordinator.proofs.KeptNext.{good, state}
+use Rattle.coordinator.proofs.PendingRoutes.{block_made, ends_same, ends_shown, legal, shape_is, waits}
 use Rattle.coordinator.proofs.coordinator.Coordinator.pending_block.Goals as goal
 
 pub needs-needed-requires : goal.needs-needed-requires
@@ -16,17 +15,7 @@ needs-needed-requires c =
     let i = c.self.inside in
     let k = c.self.invariant in
     let r = c.args.robot.0 in
-    let known : r < length i.starts.items = omega (arith, c.requires, ap (λ (b : Book). length b.starts) c.self.view_is) in
-    shape_is i k r c.in_ok-cells.cells.now (robot_is i k r known) (legal i k r c.in_ok-cells.cells.now (waits i k r c.in_ok-cells.cells.now c.in_ok-cells.ensures))
-
-pub blocker-requires-clause-ends : goal.blocker-requires-clause-ends
-blocker-requires-clause-ends c = ends_known c.self.inside c.self.invariant
-
-pub blocker-requires-clause-few : goal.blocker-requires-clause-few
-blocker-requires-clause-few c = few_ends c.self.inside c.self.invariant
-
-pub blocker-requires-clause-needs : goal.blocker-requires-clause-needs
-blocker-requires-clause-needs c = needs_below c.self.inside.site c.self.invariant.counted c.in_ok-cells.cells.now c.needs-needed.result c.needs-needed.ensures
+    shape_is i k r c.in_ok-cells.cells.now (legal i k r c.in_ok-cells.cells.now (waits i k r c.in_ok-cells.cells.now c.in_ok-cells.ensures))
 
 pub returns-in_err-blocker : goal.returns-in_err-blocker
 returns-in_err-blocker c = λ route pending.
@@ -35,7 +24,7 @@ returns-in_err-blocker c = λ route pending.
     let cells = c.in_ok-cells.cells.now in
     let known = waits i k c.args.robot.0 cells c.in_ok-cells.ensures in
     let told : c.blocker.result ≡ None = c.in_err-blocker.was in
-    let made_is = block_made i k (state i k) c.args.robot.0 cells (None) k.state.site (ends_same i k) (ap (option_map pair_of) (sym told) ∙ c.blocker.ensures (needs (site_of i.site) cells) c.needs-needed.ensures) in
+    let made_is = block_made i k (state i k) c.args.robot.0 cells (None) k.state.site (ends_same i k) (ap (option_map pair_of) (sym told) ∙ c.blocker.ensures i.site (needs (site_of i.site) cells) (ends_shown i k) c.needs-needed.ensures) in
     let same = sym (same_Some cells route (sym known ∙ subst (λ (b : Book). pending_of (state_of b) c.args.robot.0 ≡ Some route) (sym c.self.view_is) pending)) in
     c.from_residual-in_err-blocker.ensures
     ∙ sym (subst (λ (b : Book). block_of (state_of b) c.args.robot.0 route ≡ None) c.self.view_is (ap (block_of (state i k) c.args.robot.0) same ∙ made_is))
@@ -47,7 +36,7 @@ returns c = λ route pending.
     let cells = c.in_ok-cells.cells.now in
     let known = waits i k c.args.robot.0 cells c.in_ok-cells.ensures in
     let told : c.blocker.result ≡ Some c.in_ok-blocker.blocker = c.in_ok-blocker.was in
-    let made_is = block_made i k (state i k) c.args.robot.0 cells (Some c.in_ok-blocker.blocker) k.state.site (ends_same i k) (ap (option_map pair_of) (sym told) ∙ c.blocker.ensures (needs (site_of i.site) cells) c.needs-needed.ensures) in
+    let made_is = block_made i k (state i k) c.args.robot.0 cells (Some c.in_ok-blocker.blocker) k.state.site (ends_same i k) (ap (option_map pair_of) (sym told) ∙ c.blocker.ensures i.site (needs (site_of i.site) cells) (ends_shown i k) c.needs-needed.ensures) in
     let same = sym (same_Some cells route (sym known ∙ subst (λ (b : Book). pending_of (state_of b) c.args.robot.0 ≡ Some route) (sym c.self.view_is) pending)) in
     sym (subst (λ (b : Book). block_of (state_of b) c.args.robot.0 route ≡ Some c.block.result) c.self.view_is
     (ap (block_of (state i k) c.args.robot.0) same ∙ made_is ∙ ap (λ b. Some b) (sym (c.block.ensures (state i k) k.tables (good i k)))))

@@ -22,8 +22,7 @@ event_count-requires c =
     let k = c.self.invariant in
     let r = c.args.robot.0 in
     let cells = c.in-Some.cells.now in
-    let known : r < length i.starts.items = omega (arith, c.if-robot-robots.false, c.robots.ensures.starts, ap (λ (b : Book). length b.starts) c.self.view_is) in
-    shape_is i k r cells (robot_is i k r known) (legal i k r cells (waits i k r cells c.in-Some.ensures))
+    shape_is i k r cells (legal i k r cells (waits i k r cells c.in-Some.ensures))
 
 pub returns-in-Ok-clause-merges : goal.returns-in-Ok-clause-merges
 returns-in-Ok-clause-merges c =
@@ -32,7 +31,7 @@ returns-in-Ok-clause-merges c =
     let s = state i k in
     let r = c.args.robot.0 in
     let cells = c.in-Some.cells.now in
-    let known : r < length i.starts.items = omega (arith, c.if-robot-robots.false, c.robots.ensures.starts, ap (λ (b : Book). length b.starts) c.self.view_is) in
+    let known : r < length i.from.at.items = omega (arith, c.if-robot-robots.false, c.robots.ensures.starts, ap (λ (b : Book). length b.starts) c.self.view_is) in
     let pending = waits i k r cells c.in-Some.ensures in
     let free : block_of s r cells ≡ None =
     sym (subst (λ (b : Book). pending_of (state_of b) r ≡ Some cells → c.pending_block.result ≡ block_of (state_of b) r cells) (sym c.self.view_is) (c.pending_block.ensures cells) pending) ∙ c.in_default-pending_block.is in
@@ -42,5 +41,5 @@ returns-in-Ok-clause-merges c =
     let done = retried s r cells (robot_is i k r known) pending free room in
     let are = c.in-Ok.ensures.steps ∙ ap (λ z. steps z cells) (sym k.state.site) in
     subst (λ (b : Book). WouldMerge (state_of b) r c.in-Ok.kinds.items (get_or cells (length cells - 1) (record { 0 = 0 })) (act.Retried (first_of (state_of b)))) c.self.view_is
-    (would_merge s r cells c.in-Ok.kinds.items (act.Retried (first_of s)) Retry (record { 0 = 0 }) (robot_is i k r known) (legal i k r cells pending) are
-    (ap (λ (t : Step Span RetryRefused). t.entry) done) (ap (λ (t : Step Span RetryRefused). t.after) done))
+    (would_merge s r cells c.in-Ok.kinds.items (act.Retried (first_of s)) Retry (length (steps s.fleet.site cells)) (record { 0 = 0 }) (robot_is i k r known) (legal i k r cells pending) are
+    (ap (λ (t : Step Span RetryRefused). t.entry) done) (ap length are) room (ap (λ (t : Step Span RetryRefused). t.after) done))

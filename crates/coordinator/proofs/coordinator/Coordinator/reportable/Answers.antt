@@ -17,7 +17,7 @@ greatest_before-requires c =
 
 pub returns-in-Some-greatest_before-clause-refused : goal.returns-in-Some-greatest_before-clause-refused
 returns-in-Some-greatest_before-clause-refused c =
-    let start : c.args.robot.0 < length c.self.inside.starts.items = omega (arith, c.if-robot-robots.false, c.robots.ensures.starts, ap (λ (b : Book). length b.starts) c.self.view_is) in
+    let start : c.args.robot.0 < length c.self.inside.from.at.items = omega (arith, c.if-robot-robots.false, c.robots.ensures.starts, ap (λ (b : Book). length b.starts) c.self.view_is) in
     let next = sym c.next.ensures ∙ c.in-Some.is in
     let same = eqb-true c.in-Some.next.no.0 c.args.event.0 (sym c.eq.ensures ∙ c.if-eq.true) in
     let waits = waits_is c.self.inside c.self.invariant c.args.robot.0 c.in-Some.next c.args.event next same c.greatest_before.result c.greatest_before.ensures ∙ c.in-Some-greatest_before.is in
@@ -26,7 +26,7 @@ returns-in-Some-greatest_before-clause-refused c =
 
 pub returns-clause-found : goal.returns-clause-found
 returns-clause-found c =
-    let start : c.args.robot.0 < length c.self.inside.starts.items = omega (arith, c.if-robot-robots.false, c.robots.ensures.starts, ap (λ (b : Book). length b.starts) c.self.view_is) in
+    let start : c.args.robot.0 < length c.self.inside.from.at.items = omega (arith, c.if-robot-robots.false, c.robots.ensures.starts, ap (λ (b : Book). length b.starts) c.self.view_is) in
     let next = sym c.next.ensures ∙ c.in-Some.is in
     let same = eqb-true c.in-Some.next.no.0 c.args.event.0 (sym c.eq.ensures ∙ c.if-eq.true) in
     subst (λ b. IsReportable b c.args.robot.0 c.args.event c.in-Some.next) c.self.view_is
