@@ -1,0 +1,4 @@
+pub mod LegalBooks
+pub mod Answers
+pub mod Calls
+pub mod Clashes
