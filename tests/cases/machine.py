@@ -11,6 +11,7 @@ from collections import namedtuple
 from reference import BAD_BYTE, Bad, Reader, before_comment, require
 
 CAP = 1_000_000
+MOST = 100_000_000  # entries and what is owed, over all segments
 NUMBER = re.compile(rb"0|[1-9][0-9]{0,14}")
 Event = namedtuple("Event", "number robot kind what")  # kind acquire, move or release; what claim or (from, to)
 
@@ -90,12 +91,14 @@ class Site:
 
 
 class Machine:
-    def __init__(self, reader):
+    def __init__(self, reader, cap=CAP):
         self.site = Site(reader)
         self.robots = reader.of_kind("robot")
         self.starts = list(reader.starts)
+        self.cap = cap
         self.plan, self.finished, self.pending = [], set(), {}
         self.next, self.entries = 1, []
+        self.marks = [(0, 1)]  # where each segment begins: the number of entries before it, and the next number there
 
     # what the plan says
     def own(self, robot):
@@ -176,8 +179,13 @@ class Machine:
 
     # calls: each gives its answer line, and adds its entry
     def room(self, growth):
-        owed = len(self.plan) - len(self.finished) + len(self.pending)
-        self.refuse(len(self.entries) + owed + growth > CAP, b"full")
+        """Refuses an outcome that there is no room for. Where the current segment has none, but a new one has, it opens."""
+        left, count = len(self.plan) - len(self.finished), len(self.entries)
+        owed = left + len(self.pending)
+        past = count - self.marks[-1][0] + owed + growth > self.cap
+        self.refuse(count + owed + growth > MOST or past and (left or owed + growth > self.cap), b"full")
+        if past:
+            self.marks.append((count, self.next))
 
     @staticmethod
     def refuse(cause, words):
@@ -465,7 +473,7 @@ def replay(text):
     if len(begun) == 2:
         return begun
     reader, number, rest = begun
-    entries, header = [], True
+    first, entries, header = number + 1, [], True
     while True:
         number += 1
         feed = rest.find(b"\n")
@@ -490,6 +498,8 @@ def replay(text):
         machine.answer(*call)
         if machine.entries[place - 1 :] != [line]:
             return 3, b"refused entry %d\n" % place
+    if len(machine.marks) > 1:
+        return refused_line(first, "T2")
     state = machine.state()
     if rest not in (b"", text_of(state)):
         wanted, came = [line + b"\n" for line in state], re.findall(rb"[^\n]*\n|[^\n]+", rest)

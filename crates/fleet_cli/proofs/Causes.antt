@@ -7,8 +7,8 @@ use Rattle.fleet_cli.specs.declared.fault.Fault.{Fault}
 use Rattle.fleet_cli.specs.declared.fault.Fault.TheVariants.{Line, TooBig, Entry, UnknownFrom, UnknownTo}
 use Rattle.scenario_reader.specs.Tables.{mapped}
 use Rattle.site_lines.specs.declared.fault.At.{At}
-use Rattle.site_lines.specs.declared.fault.Code.TheVariants.{T1}
-use Rattle.fleet_replay.specs.Replay.{ReplayValue, printed_or, reached_text, replay_of, unless_differs, with_tail}
+use Rattle.site_lines.specs.declared.fault.Code.TheVariants.{T1, T2}
+use Rattle.fleet_replay.specs.Replay.{ReplayValue, is_one_segment, printed_or, reached_text, replay_of, unless_differs, with_header, with_tail}
 use Rattle.fleet_replay.specs.Tails.{differing_line, is_tail}
 use Rattle.fleet_replay.specs.declared.refused.ReplayFault.TheVariants as replay_fault
 use Rattle.fleet_script.specs.Script.{ScriptValue, opening_of, printed, script_of}
@@ -89,7 +89,7 @@ module _ (replay : ReplayValue) where
   state = reached_text replay.scenario replay.entries
 
   abbrev due_with : Option ℕ → Due
-  due_with o = reply_for (done (or_fault (with_tail replay (unless_differs o state))))
+  due_with o = reply_for (done (or_fault (with_tail replay (with_header replay (unless_differs o state)))))
 
   by_tail : (good : Bool) (status : ℕ) (text : List ℕ)
       → (let r : Result (List ℕ) Fault = or_fault (if good then Ok state else Err (replay_fault.Line (record { line = replay.lines + differing_line replay.tail state; code = T1 }))) in (status ≡ (reply_for (done r)).status) × (text ≡ (reply_for (done r)).text))
@@ -97,9 +97,15 @@ module _ (replay : ReplayValue) where
   by_tail true status text is zero = is.1
   by_tail false status text is zero = let refused = is.0 in absurd (omega (arith, refused, zero))
 
+  by_header : (one : Bool) (status : ℕ) (text : List ℕ)
+      → (let r : Result (List ℕ) Fault = or_fault (with_tail replay (if one then Ok state else Err (replay_fault.Line (record { line = replay.above + 1; code = T2 })))) in (status ≡ (reply_for (done r)).status) × (text ≡ (reply_for (done r)).text))
+      → status ≡ 0 → text ≡ state
+  by_header true status text is zero = by_tail (is_tail state replay.tail) status text is zero
+  by_header false status text is zero = let refused = is.0 in absurd (omega (arith, refused, zero))
+
   by_first : (o : Option ℕ) (status : ℕ) (text : List ℕ) → status ≡ (due_with o).status → status ≡ 0 → text ≡ (due_with o).text → text ≡ state
   by_first (Some n) status text is zero told = absurd (omega (arith, is, zero))
-  by_first None status text is zero told = by_tail (is_tail state replay.tail) status text (is, told) zero
+  by_first None status text is zero told = by_header (is_one_segment (opening_of replay.scenario) replay.entries) status text (is, told) zero
 
 replayed_of : (r : Result ReplayValue At) (status : ℕ) (text : List ℕ) → status ≡ (reply_for (done (or_fault (printed_or r)))).status → status ≡ 0 → text ≡ (reply_for (done (or_fault (printed_or r)))).text
     → (replay : ReplayValue) × (r ≡ Ok replay) × (text ≡ reached_text replay.scenario replay.entries)

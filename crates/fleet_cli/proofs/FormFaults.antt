@@ -1,7 +1,7 @@
 -- The faults of each form are in its input.
 use Rattle.std.proofs.Common.{◌≡◌, ℕ, ◌+◌, inl, inr, Bool, true, false, if◌then◌else◌, List, [], drop, Option, Some, None, Ok, Err, Result, refl, sym, ap, subst, ◌∙◌, rules}
 use Rattle.site_lines.specs.declared.fault.At.{At}
-use Rattle.site_lines.specs.declared.fault.Code.TheVariants.{T1}
+use Rattle.site_lines.specs.declared.fault.Code.TheVariants.{T1, T2}
 use Rattle.site_lines.specs.Lines.{lines_of}
 use Rattle.site_lines.proofs.Readings.{first_fault}
 use Rattle.fleet_base.specs.declared.numbers.CellNo.{CellNo}
@@ -9,7 +9,7 @@ use Rattle.fleet_commands.specs.Reading.{commands_of}
 use Rattle.fleet_commands.specs.declared.command.Command.{Command}
 use Rattle.fleet_commands.proofs.Texts.{refused_is_bad}
 use Rattle.fleet_route.specs.Answers.{told, told_in}
-use Rattle.fleet_replay.specs.Replay.{ReplayValue, printed_or, numbered_on, reached_text, replay_of, replay_value, unless_differs, with_journal, with_tail}
+use Rattle.fleet_replay.specs.Replay.{ReplayValue, is_one_segment, printed_or, numbered_on, reached_text, replay_of, replay_value, unless_differs, with_header, with_journal, with_tail}
 use Rattle.fleet_replay.specs.Tails.{differing_line, is_tail}
 use Rattle.fleet_replay.specs.declared.refused.ReplayFault.TheVariants as replay_fault
 use Rattle.fleet_script.specs.Script.{opening_of, printed, with_commands}
@@ -29,7 +29,7 @@ use Rattle.fleet_cli.specs.declared.fault.Fault.TheVariants.{Line, TooBig, Entry
 use Rattle.fleet_cli.specs.Check.{canonical_or}
 use Rattle.fleet_cli.specs.Forms.{Form, Check, Route, Script, Replay, limit_of}
 use Rattle.fleet_cli.specs.Outputs.{HoldsFor, Report, done, output_of}
-use Rattle.fleet_cli.specs.Replay.{IsBadJournal, IsBadTail, or_fault}
+use Rattle.fleet_cli.specs.Replay.{IsBadHeader, IsBadJournal, IsBadTail, or_fault}
 use Rattle.fleet_cli.specs.Route.{LacksFrom, LacksTo, or_refused}
 use Rattle.fleet_cli.specs.Script.{IsBadCommand, IsBadScenario, or_line}
 use Rattle.fleet_cli.specs.Refusals.{IsBadAt, HasFault}
@@ -105,13 +105,13 @@ bad_journal input front at begins is = record {
   bad = first_fault (read_line front.scenario.names) read_all 1 Begun (ended_lines (drop front.used input)) at is;
 }
 
--- or the first entry that differs, or the first line of what stands behind the journal that does
+-- or the first entry that differs, or the first line of more than one segment, or the first line of what stands behind the journal that differs
 in_state : (input : List ℕ) (replay : ReplayValue) → replay_of input ≡ Ok replay → (o : Option ℕ) → first_differing (opening_of replay.scenario) replay.entries ≡ o → (fault : Fault)
-    → done (or_fault (with_tail replay (unless_differs o (reached_text replay.scenario replay.entries)))) ≡ Err fault → HasFault Replay input fault
+    → done (or_fault (with_tail replay (with_header replay (unless_differs o (reached_text replay.scenario replay.entries))))) ≡ Err fault → HasFault Replay input fault
 in_state input replay is (Some n) first fault e =
     let same : Entry n ≡ fault = cc in
     rw (sym same) (record { replay = replay; is = is; differs = first_differs (opening_of replay.scenario) replay.entries n first })
-in_state input replay is None first fault e = by_tail (is_tail state replay.tail) refl e
+in_state input replay is None first fault e = by_header (is_one_segment (opening_of replay.scenario) replay.entries) refl e
   where
     state : List ℕ
     state = reached_text replay.scenario replay.entries
@@ -119,11 +119,20 @@ in_state input replay is None first fault e = by_tail (is_tail state replay.tail
     place : At
     place = record { line = replay.lines + differing_line replay.tail state; code = T1 }
 
-    by_tail : (good : Bool) → is_tail state replay.tail ≡ good → done (or_fault (if good then Ok state else Err (replay_fault.Line place))) ≡ Err fault → HasFault Replay input fault
-    by_tail true good e = absurd (cc)
-    by_tail false good e =
-        let bad : IsBadTail input place = record { replay = replay; is = is; legal = none_differs (opening_of replay.scenario) replay.entries first; differs = good; place = refl } in
-        rw (sym (same_line place fault e)) (inr (inr bad))
+    header : At
+    header = record { line = replay.above + 1; code = T2 }
+
+    by_tail : is_one_segment (opening_of replay.scenario) replay.entries ≡ true → (good : Bool) → is_tail state replay.tail ≡ good → done (or_fault (if good then Ok state else Err (replay_fault.Line place))) ≡ Err fault → HasFault Replay input fault
+    by_tail one true good e = absurd (cc)
+    by_tail one false good e =
+        let bad : IsBadTail input place = record { replay = replay; is = is; legal = none_differs (opening_of replay.scenario) replay.entries first; one = one; differs = good; place = refl } in
+        rw (sym (same_line place fault e)) (inr (inr (inr bad)))
+
+    by_header : (one : Bool) → is_one_segment (opening_of replay.scenario) replay.entries ≡ one → done (or_fault (with_tail replay (if one then Ok state else Err (replay_fault.Line header)))) ≡ Err fault → HasFault Replay input fault
+    by_header true one e = by_tail one (is_tail state replay.tail) refl e
+    by_header false one e =
+        let bad : IsBadHeader input header = record { replay = replay; is = is; legal = none_differs (opening_of replay.scenario) replay.entries first; more = one; place = refl } in
+        rw (sym (same_line header fault e)) (inr (inr (inl bad)))
 
 in_journal : (input : List ℕ) (front : FrontValue) (r : Result Front At) → front_of input ≡ Ok front → journal_of front.scenario.names (drop front.used input) ≡ r → (fault : Fault)
     → done (or_fault (printed_or (mapped (λ journal. replay_value front journal input) (numbered_on front.lines r)))) ≡ Err fault → HasFault Replay input fault

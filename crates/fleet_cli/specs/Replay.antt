@@ -1,9 +1,9 @@
 -- The form `replay`.
-use Rattle.std.specs.Prelude.{◌≡◌, ◌⊎◌, ℕ, ◌+◌, false, List, drop, Ok, Err, Result}
+use Rattle.std.specs.Prelude.{◌≡◌, ◌⊎◌, ℕ, ◌+◌, true, false, List, drop, Ok, Err, Result}
 use Rattle.std.specs.declared.option.Option.{Option}
 use Rattle.fleet_io.specs.Bytes.{Puts}
 use Rattle.fleet_model.specs.Journals.{IsJournal}
-use Rattle.fleet_replay.specs.Replay.{ReplayValue, reached_text, replay_of, replay_text}
+use Rattle.fleet_replay.specs.Replay.{ReplayValue, is_one_segment, reached_text, replay_of, replay_text}
 use Rattle.fleet_replay.specs.Sound.{IsSoundRun}
 use Rattle.fleet_replay.specs.Tails.{differing_line, is_tail}
 use Rattle.fleet_replay.specs.declared.refused.ReplayFault.{ReplayFault}
@@ -13,7 +13,7 @@ use Rattle.journal_replay.specs.Differing.{DiffersAt}
 use Rattle.plan_journal.specs.Reading.{Begun, ended_lines, read_all, read_line}
 use Rattle.scenario_reader.specs.Reading.{FrontValue, front_of}
 use Rattle.site_lines.specs.declared.fault.At.{At}
-use Rattle.site_lines.specs.declared.fault.Code.TheVariants.{T1}
+use Rattle.site_lines.specs.declared.fault.Code.TheVariants.{T1, T2}
 use Rattle.site_lines.specs.Readings.{IsFirstFault}
 use Rattle.fleet_cli.specs.Script.{IsBadScenario}
 use Rattle.fleet_cli.specs.declared.fault.Fault.{Fault}
@@ -40,16 +40,25 @@ pub record IsBadJournal (input : List ℕ) (at : At) : Type 0 where
   pub number : at.line ≡ front.lines + line
   pub bad : IsFirstFault (read_line front.scenario.names) read_all 1 Begun (ended_lines (drop front.used input)) (record { line = line; code = at.code })
 
--- the journal is legal, and this is the first line in which what stands behind it differs from the state's text
+-- the journal is legal, and more than one segment, so that this, its first line, isn't the one that it would be printed with
+pub record IsBadHeader (input : List ℕ) (at : At) : Type 0 where
+  pub replay : ReplayValue
+  pub is : replay_of input ≡ Ok replay
+  pub legal : IsJournal (opening_of replay.scenario) replay.entries
+  pub more : is_one_segment (opening_of replay.scenario) replay.entries ≡ false
+  pub place : at ≡ record { line = replay.above + 1; code = T2 }
+
+-- the journal is legal and one segment, and this is the first line in which what stands behind it differs from the state's text
 pub record IsBadTail (input : List ℕ) (at : At) : Type 0 where
   pub replay : ReplayValue
   pub is : replay_of input ≡ Ok replay
   pub legal : IsJournal (opening_of replay.scenario) replay.entries
+  pub one : is_one_segment (opening_of replay.scenario) replay.entries ≡ true
   pub differs : is_tail (reached_text replay.scenario replay.entries) replay.tail ≡ false
   pub place : at ≡ record { line = replay.lines + differing_line replay.tail (reached_text replay.scenario replay.entries); code = T1 }
 
 abbrev pub IsBadReplay : List ℕ → At → Type 0
-IsBadReplay input at = IsBadScenario input at ⊎ (IsBadJournal input at ⊎ IsBadTail input at)
+IsBadReplay input at = IsBadScenario input at ⊎ (IsBadJournal input at ⊎ (IsBadHeader input at ⊎ IsBadTail input at))
 
 -- the input is a replay, and this is the first of its entries that differs
 pub record IsEntryFault (input : List ℕ) (entry : ℕ) : Type 0 where

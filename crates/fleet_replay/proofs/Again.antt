@@ -1,60 +1,74 @@
 -- A printed run behind its scenario is taken.
-use Rattle.std.proofs.Common.{◌≡◌, ◌⊎◌, inl, inr, ℕ, ◌+◌, ◌==◌, ◌||◌, Bool, true, false, List, [], ◌∷◌, length, drop, Ok, Err, Result, refl, sym, ap, subst, ◌∙◌}
+use Rattle.std.proofs.Common.{◌≡◌, ◌⊎◌, inl, inr, ℕ, ◌+◌, ◌<◌, ◌≤◌, ◌==◌, ◌||◌, Bool, true, false, eqb, List, [], ◌∷◌, ◌++◌, length, drop, Ok, Result, refl, sym, ap, ◌∙◌, arith}
+use Rattle.std.proofs.lemmas.Bool.{eqb-true}
 use Rattle.std.proofs.lemmas.List.{drop-drop}
+use Rattle.std.proofs.lemmas.List.Elements.{All-get_or}
+use Rattle.std.proofs.lemmas.Option.{get_or_from_slice_get, slice_get_within}
 use Rattle.std.proofs.lemmas.Slice.Eq.{bytes_eq-Decides}
 use Rattle.std.proofs.Math.Seq.{drop-append_seam}
-use Rattle.fleet_names.specs.Names.{AreDeclared, Named}
+use Rattle.fleet_base.specs.declared.entries.Entry.{Entry}
+use Rattle.fleet_base.specs.declared.marks.Mark.{Mark}
+use Rattle.fleet_base.specs.declared.numbers.CellNo.{CellNo}
+use Rattle.fleet_model.specs.Journals.{IsJournal}
+use Rattle.fleet_model.specs.Segments.{inner_marks, mark_at}
+use Rattle.fleet_model.proofs.Counts.{journal_counts}
+use Rattle.fleet_model.proofs.GoodStates.{journal_good}
+use Rattle.fleet_model.proofs.Marks.{last_mark}
+use Rattle.fleet_names.specs.Names.{Named}
 use Rattle.fleet_script.specs.Script.{opening_of}
+use Rattle.fleet_script.proofs.Runs.{opens}
 use Rattle.fleet_texts.specs.Texts.{journal_text}
 use Rattle.journal_replay.proofs.Differing.{legal_none}
 use Rattle.plan_journal.specs.Reading.{Front, journal_of}
 use Rattle.plan_journal.proofs.Again.{journal_again}
 use Rattle.scenario.specs.Scenarios.{ScenarioValue}
-use Rattle.scenario_reader.specs.Kept.{IsReached}
-use Rattle.scenario_reader.specs.Reading.{FrontValue, bytes_of_lines, front_done, front_of, front_step, is_ended, step}
-use Rattle.scenario_reader.specs.States.{State, AtHeader, AmongSite, AmongRobots, InMission, Ended, scenario_in}
 use Rattle.scenario_reader.specs.Tables.{mapped}
-use Rattle.scenario_reader.proofs.Fines.{mapped_ok}
-use Rattle.scenario_reader.proofs.Steps.{step_reached}
-use Rattle.site_lines.specs.declared.fault.Code.{Code}
-use Rattle.site_lines.specs.Lines.{lines_of}
-use Rattle.site_lines.specs.Readings.{onward, read_from}
 use Rattle.fleet_replay.specs.Printed.{IsPrintedRun}
-use Rattle.fleet_replay.specs.Replay.{ReplayValue, numbered_on, printed_or, reached_text, replay_of, replay_text, replay_value, unless_differs, with_journal, with_tail}
+use Rattle.fleet_replay.specs.Replay.{ReplayValue, is_one_segment, numbered_on, printed_or, reached_text, replay_of, replay_text, replay_value, unless_differs, with_header, with_journal, with_tail}
 use Rattle.fleet_replay.specs.Tails.{is_tail}
 use Rattle.fleet_replay.specs.declared.refused.ReplayFault.{ReplayFault}
+use Rattle.fleet_replay.proofs.Fronts.{IsBegun, front_begun}
+use Rattle.fleet_replay.proofs.Printables.{IsNamed, legal_printable}
+use Rattle.fleet_replay.proofs.Sites.{cells_are}
 
--- The names of a scenario that is read are declared.
+-- a state that a scenario opens with has names for its robots and cells
+opening_named : (scenario : ScenarioValue) → IsBegun scenario → IsNamed scenario.names (opening_of scenario)
+opening_named scenario begun =
+    let cells = cells_are scenario.site in
+    record {
+      site = begun.site;
+      good = opens scenario begun.fits;
+      cells = cells ∙ sym begun.fits.named.cells;
+      robots = sym begun.fits.named.robots;
+      few = begun.fits.few;
+      starts = λ r a at.
+          let within = slice_get_within scenario.starts r a at in
+          let known = All-get_or (λ (c : CellNo). c.0 < scenario.site.cells) scenario.starts r a within begun.fits.starts in
+          let here = ap (λ (c : CellNo). c.0) (get_or_from_slice_get scenario.starts r a a at) in
+          omega (arith, known, here, cells);
+      cap = omega arith;
+    }
 
-ended_names : (n : ℕ) (s : State) (k : ℕ) (found : ScenarioValue × ℕ) → IsReached s → onward (front_done (s, k)) n (λ t. Ok t) ≡ Ok found → AreDeclared found.0.names
-ended_names n AtHeader k found reached is = absurd (cc)
-ended_names n (AmongSite flows d) k found reached is = absurd (cc)
-ended_names n (AmongRobots d) k found reached is = absurd (cc)
-ended_names n (InMission d m) k found reached is = absurd (cc)
-ended_names n (Ended d) k found reached is =
-    let same : (scenario_in d, k) ≡ found = cc in
-    subst (λ (f : ScenarioValue × ℕ). AreDeclared f.0.names) same reached.0.declared
+-- of marks that are one the last is the first
+only_mark : (first : Mark) (later : List Mark) → eqb (length (first ∷ later)) 1 ≡ true → first ∷ later ≡ [] ++ first ∷ []
+only_mark first [] one = refl
+only_mark first (mark ∷ later) one = absurd (let count = eqb-true (length (first ∷ mark ∷ later)) 1 one in omega arith)
 
-lines_names : (n : ℕ) (s : State) (k : ℕ) (lines : List (List ℕ)) (found : ScenarioValue × ℕ) → IsReached s → read_from front_step front_done n (s, k) lines ≡ Ok found → AreDeclared found.0.names
-lines_names n s k [] found reached is = ended_names n s k found reached is
-lines_names n s k (line ∷ lines) found reached is = at_line (is_ended s) refl is (λ t j r e. lines_names (n + 1) t j lines found r e)
-  where
-    Later : Type 0
-    Later = (t : State) (j : ℕ) → IsReached t → read_from front_step front_done (n + 1) (t, j) lines ≡ Ok found → AreDeclared found.0.names
+-- a legal journal that is one segment has at most as many entries as the cap says
+segment_few : (scenario : ScenarioValue) (entries : List Entry) → IsBegun scenario → IsJournal (opening_of scenario) entries → is_one_segment (opening_of scenario) entries ≡ true → length entries ≤ 1000000
+segment_few scenario entries begun legal one =
+    let opening = opening_of scenario in
+    let good = opens scenario begun.fits in
+    let counts = journal_counts opening entries begun.site good legal in
+    let count = counts.0 in
+    let cap = counts.1 in
+    let base = last_mark opening begun.site good refl refl entries legal [] (mark_at opening) (only_mark (mark_at opening) (inner_marks opening entries) one) in
+    let room = (journal_good opening entries begun.site good legal).0.room in
+    omega (arith, count, cap, base, room)
 
-    on_line : (r : Result State Code) → step s line ≡ r → onward (mapped (λ (state : State). (state, k + 1)) r) n (λ t. read_from front_step front_done (n + 1) t lines) ≡ Ok found → Later → AreDeclared found.0.names
-    on_line (Ok t) stepped e later = later t (k + 1) (step_reached s t line reached stepped) e
-    on_line (Err code) stepped e later = absurd (cc)
-
-    at_line : (ended : Bool) → is_ended s ≡ ended → onward (front_step (s, k) line) n (λ t. read_from front_step front_done (n + 1) t lines) ≡ Ok found → Later → AreDeclared found.0.names
-    at_line true ended e later = later s k reached (rw ended at e)
-    at_line false ended e later = on_line (step s line) refl (rw ended at e) later
-
-pub front_names : (text : List ℕ) (front : FrontValue) → front_of text ≡ Ok front → AreDeclared front.scenario.names
-unfolding front_of
-front_names text front is =
-    let from = mapped_ok (λ (found : ScenarioValue × ℕ). let f : FrontValue = record { scenario = found.0; used = bytes_of_lines found.1 text; lines = found.1 } in f) (read_from front_step front_done 1 (AtHeader, 0) (lines_of text)) front is in
-    subst (λ (f : FrontValue). AreDeclared f.scenario.names) from.2 (lines_names 1 AtHeader 0 (lines_of text) from.0 tt from.1)
+-- a journal of one segment has the first line that it would be printed with
+header_taken : (replay : ReplayValue) (state : List ℕ) → is_one_segment (opening_of replay.scenario) replay.entries ≡ true → (let r : Result (List ℕ) ReplayFault = Ok state in with_header replay r ≡ Ok state)
+header_taken replay state one = rw one refl
 
 -- a tail that is the state's text may stand there, and so may none
 tail_taken : (state tail : List ℕ) → is_tail state tail ≡ true → (replay : ReplayValue) → replay.tail ≡ tail → (let r : Result (List ℕ) ReplayFault = Ok state in with_tail replay r ≡ Ok state)
@@ -73,8 +87,15 @@ agreeing state tail (inl none) = ap (is_tail state) none
 agreeing state tail (inr same) = ap (is_tail state) same ∙ same_tail state
 
 pub run_taken : (input : List ℕ) (run : IsPrintedRun input) → replay_text input ≡ Ok (reached_text run.front.scenario run.entries)
-run_taken input run = ap printed_or is_read ∙ ap (λ o. with_tail replay (unless_differs o state)) (legal_none (opening_of run.front.scenario) run.entries run.legal) ∙ tail_taken state run.tail (agreeing state run.tail run.agrees) replay tail_is
+run_taken input run =
+    ap printed_or is_read
+    ∙ ap (λ o. with_tail replay (with_header replay (unless_differs o state))) (legal_none (opening_of run.front.scenario) run.entries run.legal)
+    ∙ ap (with_tail replay) (header_taken replay state run.segment)
+    ∙ tail_taken state run.tail (agreeing state run.tail run.agrees) replay tail_is
   where
+    begun : IsBegun run.front.scenario
+    begun = front_begun input run.front run.begins
+
     names : Named
     names = run.front.scenario.names
 
@@ -91,7 +112,7 @@ run_taken input run = ap printed_or is_read ∙ ap (λ o. with_tail replay (unle
     replay = replay_value run.front read input
 
     journal_is : journal_of names (drop run.front.used input) ≡ Ok read
-    journal_is = ap (journal_of names) run.behind ∙ journal_again names run.entries run.tail (front_names input run.front run.begins) run.few run.printable
+    journal_is = ap (journal_of names) run.behind ∙ journal_again names run.entries run.tail begun.declared (segment_few run.front.scenario run.entries begun run.legal run.segment) (legal_printable names begun.declared (opening_of run.front.scenario) run.entries (opening_named run.front.scenario begun) run.legal)
 
     is_read : replay_of input ≡ Ok replay
     is_read = ap (with_journal input) run.begins ∙ ap (λ r. mapped (λ (j : Front). replay_value run.front j input) (numbered_on run.front.lines r)) journal_is

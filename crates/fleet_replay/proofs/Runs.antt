@@ -5,7 +5,7 @@ use Rattle.std.proofs.lemmas.List.{append-nil, length-append}
 use Rattle.fleet_base.specs.declared.entries.Entry.{Entry}
 use Rattle.fleet_base.specs.declared.limits.TheConstants.{MAX_CAP}
 use Rattle.fleet_base.specs.declared.numbers.CellNo.{CellNo}
-use Rattle.coordinator.specs.Books.{Book, opening_of as book_opening, state_of, with_entries}
+use Rattle.coordinator.specs.Books.{Book, opening_of as book_opening, start_book, state_of, with_entries}
 use Rattle.fleet_model.specs.Good.{IsGood}
 use Rattle.fleet_model.specs.Journals.{IsJournal, state_after}
 use Rattle.fleet_model.specs.Replays.{IsLegal, opening as replayed}
@@ -16,8 +16,8 @@ use Rattle.fleet_names.specs.Names.{Named}
 use Rattle.fleet_texts.specs.StateTexts.{state_text}
 use Rattle.journal_replay.specs.Differing.{DiffersAt}
 use Rattle.journal_replay.specs.Taken.{IsGiven, IsReplayed}
-use Rattle.journal_replay.specs.declared.refused.ReplayRefused.{ReplayRefused}
-use Rattle.journal_replay.specs.declared.refused.ReplayRefused.TheVariants as replaying
+use Rattle.journal_replay.specs.declared.refused.EntriesRefused.{EntriesRefused}
+use Rattle.journal_replay.specs.declared.refused.EntriesRefused.TheVariants as replaying
 use Rattle.journal_replay.proofs.Differing.{legal_none, one_differs}
 use Rattle.journal_replay.proofs.Standing.{given_more, last_given}
 use Rattle.plan_journal.specs.Left.{IsRead, IsReadOn, front_to, left}
@@ -32,11 +32,11 @@ use Rattle.fleet_script.specs.Script.{opening_of}
 use Rattle.fleet_replay.specs.Replay.{reached_text, unless_differs}
 use Rattle.fleet_replay.specs.Sound.{IsSoundRun}
 use Rattle.fleet_replay.specs.declared.refused.ReplayFault.{ReplayFault}
-use Rattle.fleet_replay.specs.Stops.{Fails, of_journal, of_replay, run_of}
+use Rattle.fleet_replay.specs.Stops.{Fails, of_entries, of_journal, run_of}
 
 -- the book of a coordinator that replayed these entries
 abbrev pub book_of : ScenarioValue → List Entry → Book
-book_of scenario entries = record { site = scenario.site; starts = scenario.starts; cap = MAX_CAP; journal = entries }
+book_of scenario entries = record (start_book scenario.site scenario.starts MAX_CAP) { journal = entries }
 
 module _ (scenario : ScenarioValue) (entries : List Entry) (book : Book) (is : book ≡ book_of scenario entries) where
   -- its journal is sound
@@ -65,7 +65,7 @@ module _ (names : Named) (text : List ℕ) (site : BuiltSite) (starts : List Cel
 
   -- the coordinator's journal is legal and stands above what is left of the text
   pub record Stands (book : Book) (end : Place) : Type 0 where
-    pub book_is : book ≡ record { site = site; starts = starts; cap = MAX_CAP; journal = book.journal }
+    pub book_is : book ≡ record (start_book site starts MAX_CAP) { journal = book.journal }
     pub legal : IsJournal opening book.journal
     pub rest : left names text book.journal end ≡ journal_of names text
     pub count : end.lines ≡ length book.journal + 1
@@ -88,6 +88,11 @@ module _ {names : Named} {text : List ℕ} {site : BuiltSite} {starts : List Cel
       let is : IsRead names text book.journal end new (Ok None) = subst (λ o. IsRead names text book.journal end new (Ok o)) none (read book.journal stands.count) in
       ap (run_of (opening names text site starts)) (sym stands.rest ∙ is)
       ∙ ap (λ o. unless_differs o (front_to book.journal new)) (legal_none (opening names text site starts) book.journal stands.legal)
+
+  -- a line that is bad is named
+  pub line_fails : (cause : ReadJournalRefused) → ((entries : List Entry) → end.lines ≡ length entries + 1 → IsRead names text entries end new (Err cause)) → Fails (of_journal cause) due
+  line_fails (Bad at) read = ap (run_of (opening names text site starts)) (sym stands.rest ∙ read book.journal stands.count)
+  line_fails NoMemory read = tt
 
   module _ {entry : Entry} {said : Option Entry} (some : said ≡ Some entry) (read : Reads names text site starts end new said) (moved : new.lines ≡ end.lines + 1) where
     abbrev above : List Entry
@@ -125,12 +130,11 @@ module _ {names : Named} {text : List ℕ} {site : BuiltSite} {starts : List Cel
         }
 
     -- and named, where the rest has no bad line
-    pub entry_fails : (cause : ReplayRefused) → IsReplayed entry book (Err cause) → ReadsOn names text site starts new (Ok tt) → Fails (of_replay cause) due
+    pub entry_fails : (cause : EntriesRefused) → IsReplayed entry book (Err cause) → ReadsOn names text site starts new (Ok tt) → Fails (of_entries cause) due
     entry_fails (replaying.Differs n) taken on =
         let rest = on above more_lines in
         let found : journal_of names text ≡ Ok (front_to (above ++ rest.0) rest.1) = sym stands.rest ∙ is ∙ rest.2 in
         ap (run_of (opening names text site starts)) found ∙ ap (λ o. unless_differs o (front_to (above ++ rest.0) rest.1)) (one_differs (opening names text site starts) (above ++ rest.0) n (differs_first rest.0 n taken.0 taken.1))
-    entry_fails (replaying.New cause) taken on = tt
     entry_fails replaying.NoMemory taken on = tt
 
     -- a bad line among the rest goes before it

@@ -2,8 +2,8 @@
 use Rattle.std.specs.Prelude.{◌≡◌, ℕ, ◌+◌, Ok, Err, Result}
 use Rattle.fleet_model.specs.States.{State}
 use Rattle.journal_replay.specs.Differing.{first_differing}
-use Rattle.journal_replay.specs.declared.refused.ReplayRefused.{ReplayRefused}
-use Rattle.journal_replay.specs.declared.refused.ReplayRefused.TheVariants as replaying
+use Rattle.journal_replay.specs.declared.refused.EntriesRefused.{EntriesRefused}
+use Rattle.journal_replay.specs.declared.refused.EntriesRefused.TheVariants as entries
 use Rattle.plan_journal.specs.Left.{front_to}
 use Rattle.plan_journal.specs.Reading.{Front}
 use Rattle.plan_journal.specs.declared.reading.ReadJournalRefused.{ReadJournalRefused}
@@ -18,7 +18,7 @@ use Rattle.fleet_replay.specs.declared.refused.ReplayFault.TheVariants.{Line, En
 use Rattle.fleet_replay.specs.declared.refused.TextRefused.{TextRefused}
 use Rattle.fleet_replay.specs.declared.refused.TextRefused.TheVariants.{Fault, NoMemory}
 
--- a refusal of the readers of scenarios and of journals, and of an entry's replay, which refuses no starts
+-- a refusal of the readers of scenarios and of journals, and of an entry's replay
 abbrev pub of_scenario : ReadRefused → TextRefused
 of_scenario (read.Bad at) = Fault (Line at)
 of_scenario read.NoMemory = NoMemory
@@ -27,10 +27,9 @@ abbrev pub of_journal : ReadJournalRefused → TextRefused
 of_journal (journal.Bad at) = Fault (Line at)
 of_journal journal.NoMemory = NoMemory
 
-abbrev pub of_replay : ReplayRefused → TextRefused
-of_replay (replaying.New cause) = NoMemory
-of_replay (replaying.Differs entry) = Fault (Entry entry)
-of_replay replaying.NoMemory = NoMemory
+abbrev pub of_entries : EntriesRefused → TextRefused
+of_entries (entries.Differs entry) = Fault (Entry entry)
+of_entries entries.NoMemory = NoMemory
 
 -- the same with the line's number in the whole text, where a line is bad that stands behind so many others
 abbrev pub numbered : ℕ → TextRefused → TextRefused

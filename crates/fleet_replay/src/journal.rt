@@ -1,5 +1,6 @@
 // The replay of a journal as it is read: each entry stands in the coordinator's journal alone.
 ghost use Rattle.std.specs.Prelude.{◌≡◌, ◌+◌, ◌-◌, ◌^◌, ◌<◌, ◌≤◌, All, length, IfOk};
+ghost use Rattle.coordinator.specs.Books.{start_book};
 ghost use Rattle.fleet_base.specs.declared.limits.TheConstants.{MAX_CAP, MAX_ROBOTS};
 ghost use Rattle.fleet_model.specs.States.{start_state};
 ghost use Rattle.fleet_names.specs.Names.{count_of};
@@ -45,7 +46,7 @@ pub(crate) fn replay_behind(
     requires robots { count_of is_robot names.now ≤ 64 }
     requires short { lines + length text.now < 2 ^ 32 - 1 }
     ensures is { Gives run_value result (run_of (start_state (site_of site) starts.now MAX_CAP) (numbered_on lines (journal_of names.now text.now))) }
-    ensures book { IfOk result (λ run. run.fleet ≡ record { site = site; starts = starts.now; cap = MAX_CAP; journal = run.fleet.journal }) }
+    ensures book { IfOk result (λ run. run.fleet ≡ record (start_book site starts.now MAX_CAP) { journal = run.fleet.journal }) }
     ensures within { IfOk result (λ run. IsWithin text.now run.end) }
 {
     match replay_journal(alloc, site, starts, names, text) {
@@ -83,7 +84,7 @@ fn replay_journal(
     requires robots { count_of is_robot names.now ≤ 64 }
     requires short { length text.now < 2 ^ 32 - 1 }
     ensures is { Gives run_value result (run_of (start_state (site_of site) starts.now MAX_CAP) (journal_of names.now text.now)) }
-    ensures book { IfOk result (λ run. run.fleet ≡ record { site = site; starts = starts.now; cap = MAX_CAP; journal = run.fleet.journal }) }
+    ensures book { IfOk result (λ run. run.fleet ≡ record (start_book site starts.now MAX_CAP) { journal = run.fleet.journal }) }
     ensures within { IfOk result (λ run. IsWithin text.now run.end) }
 {
     let mut end = read_header(text)?;

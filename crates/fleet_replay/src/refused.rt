@@ -1,12 +1,12 @@
 //! Why a text isn't replayed.
 
 ghost use Rattle.std.specs.Prelude.{◌≡◌};
-ghost use Rattle.fleet_replay.specs.Stops.{of_journal, of_replay, of_scenario};
+ghost use Rattle.fleet_replay.specs.Stops.{of_entries, of_journal, of_scenario};
 ghost use Rattle.fleet_replay.specs.declared.refused.ReplayFault.TheVariants.{Line};
 ghost use Rattle.fleet_replay.specs.declared.refused.TextRefused.TheVariants.{Fault, NoMemory as OutOfMemory};
 
 use fleet_base::path::NoMemory;
-use journal_replay::refused::ReplayRefused;
+use journal_replay::refused::EntriesRefused;
 use plan_journal::reading::ReadJournalRefused;
 use scenario_reader::stop::ReadRefused;
 use site_lines::fault::At;
@@ -14,8 +14,9 @@ use site_lines::fault::At;
 /// What is wrong with a text that isn't replayed.
 #[derive(Clone, Copy, Debug, PartialEq, Eq)]
 pub enum ReplayFault {
-    /// This is its first bad line, with the line's least code: of the scenario or of the journal, or
-    /// with `T1` the first line in which what stands behind them differs from the state's text.
+    /// This is its first bad line, with the line's least code: of the scenario or of the journal; or
+    /// with `T2` the first line of a journal that is more than one segment; or with `T1` the first
+    /// line in which what stands behind them differs from the state's text.
     Line(At),
     /// This is the number, from 1, of the first entry that isn't one of an accepted call with just
     /// this answer.
@@ -53,14 +54,13 @@ impl From<ReadJournalRefused> for TextRefused {
     }
 }
 
-// No starts are refused where an entry is replayed, so nothing but memory can lack beside it.
-impl From<ReplayRefused> for TextRefused {
-    ghost from_gives = { λ cause refused. refused ≡ of_replay cause };
+impl From<EntriesRefused> for TextRefused {
+    ghost from_gives = { λ cause refused. refused ≡ of_entries cause };
 
-    fn from(cause: ReplayRefused) -> Self {
+    fn from(cause: EntriesRefused) -> Self {
         match cause {
-            ReplayRefused::Differs { entry } => TextRefused::Fault(ReplayFault::Entry(entry)),
-            ReplayRefused::New(_) | ReplayRefused::NoMemory => TextRefused::NoMemory,
+            EntriesRefused::Differs { entry } => TextRefused::Fault(ReplayFault::Entry(entry)),
+            EntriesRefused::NoMemory => TextRefused::NoMemory,
         }
     }
 }

@@ -5,6 +5,7 @@ ghost use Rattle.fleet_replay.specs.Replay.{ReplayValue, replay_of, replay_text}
 ghost use Rattle.fleet_replay.specs.Sound.{ReplaysSoundly};
 ghost use Rattle.fleet_replay.specs.Stops.{Gives};
 
+use crate::header::check_header;
 use crate::journal::{Run, replay_behind};
 use crate::refused::TextRefused;
 use crate::tail::check_tail;
@@ -15,8 +16,9 @@ use std::alloc::Global;
 
 /// The text of the state that a journal reaches, which stands behind its scenario. Behind the
 /// journal that text may stand again, and nothing else. A text that isn't such a one is refused: for
-/// its first bad line, or else for the first entry that differs, or else for the first line in which
-/// what stands behind the journal differs from the state's text.
+/// its first bad line, or else for the first entry that differs, or else for the first line of a
+/// journal that is more than one segment, or else for the first line in which what stands behind the
+/// journal differs from the state's text.
 ///
 /// The text has fewer than 4,294,967,295 bytes.
 pub fn replay_text(alloc: Global, input: &[u8]) -> Result<Vec<u8>, TextRefused>
@@ -43,6 +45,7 @@ pub fn replay_text(alloc: Global, input: &[u8]) -> Result<Vec<u8>, TextRefused>
         behind,
         front.lines,
     )?;
+    check_header(fleet.marks(), front.lines)?;
     // What every coordinator keeps is said by its journal.
     let _kept = fleet.journal();
     let text = state_text(alloc, &names, &fleet)?;

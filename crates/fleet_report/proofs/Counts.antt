@@ -12,4 +12,4 @@ module _ (book : Book) (is_site : IsSite (opening_of book).fleet.site) (opens : 
   entries_counted = let counts = (journal_counts (opening_of book) book.journal is_site opens legal).0 in omega (arith, counts)
 
   pub unfinished_few : length (unfinished (state_of book).fleet) ≤ book.cap
-  unfinished_few = let cap = (journal_counts (opening_of book) book.journal is_site opens legal).1 in let room = good.room in omega (arith, cap, room)
+  unfinished_few = let cap = (journal_counts (opening_of book) book.journal is_site opens legal).1 in let room = good.room in let base = good.base in omega (arith, cap, room, base)

@@ -6,7 +6,7 @@ use Rattle.fleet_base.specs.declared.answers.ReplanRefused.TheVariants.{NoMemory
 use Rattle.fleet_base.specs.declared.entries.Act.TheVariants.{Replanned}
 use Rattle.fleet_base.specs.declared.numbers.CellNo.{CellNo}
 use Rattle.fleet_base.specs.declared.numbers.Span.{Span}
-use Rattle.fleet_model.specs.Calls.{Replan, Replans, accepted, detour_of, first_of, replan, replan_refusals, span_of, with_route}
+use Rattle.fleet_model.specs.Calls.{Replan, Replans, accepted, detour_of, first_of, in_segment, merge_growth, replan, replan_refusals, span_of, with_route}
 use Rattle.fleet_model.specs.Lists.{first_some, has_cell}
 use Rattle.fleet_model.specs.States.{State}
 use Rattle.fleet_names.specs.Names.{Named}
@@ -26,7 +26,7 @@ replan_adds_nothing : (s : State) (r : ℕ) (goal : CellNo → Bool) (refused : 
 replan_adds_nothing s r goal refused is =
     let detour = detour_of s.fleet r goal in
     let route = unwrap_or detour [] in
-    refused_adds_nothing (first_some (replan_refusals s r goal detour)) s (accepted (span_of s route) r (Replanned route (first_of s)) (with_route s r route)) (span_of s route) refused refl is
+    refused_adds_nothing (first_some (replan_refusals s r goal detour)) s (accepted (span_of s route) r (Replanned route (first_of s)) (in_segment s (merge_growth s route) (with_route s r route))) (span_of s route) refused refl is
 
 -- what a replan does to the book
 book_is : (old new : Book) (r : ℕ) (goal : CellNo → Bool) (answer : Result Span ReplanRefused) → answer ≡ (replan (state_of old) r goal).answer → new ≡ book_after answer (replan (state_of old) r goal).entry old → new ≡ with_entries old (option_to_list (replan (state_of old) r goal).entry)

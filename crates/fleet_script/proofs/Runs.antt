@@ -2,7 +2,7 @@
 use Rattle.std.proofs.Common.{◌≡◌, ℕ, List, [], ◌++◌, map, None, refl, sym, ap, subst, ◌∙◌}
 use Rattle.std.proofs.lemmas.List.{append-nil}
 use Rattle.fleet_base.specs.declared.limits.TheConstants.{MAX_CAP}
-use Rattle.coordinator.specs.Books.{Book, state_of}
+use Rattle.coordinator.specs.Books.{Book, start_book, state_of}
 use Rattle.fleet_commands.specs.Commands.{call_of}
 use Rattle.fleet_commands.specs.declared.command.Command.{Command}
 use Rattle.fleet_model.specs.Calls.{entries_of}
@@ -23,7 +23,7 @@ use Rattle.fleet_script.specs.Carried.{AreAnswered}
 use Rattle.fleet_script.specs.Sound.{PrintsSoundly, answer_lines}
 
 -- the opening state of a scenario is good
-opens : (scenario : ScenarioValue) → IsScenario scenario → IsGood (opening_of scenario)
+pub opens : (scenario : ScenarioValue) → IsScenario scenario → IsGood (opening_of scenario)
 opens scenario is = opening_good (site_of scenario.site) scenario.starts (map (λ a. None) scenario.starts) 1 MAX_CAP (may_open scenario is MAX_CAP)
 
 -- what a script prints is its answers, and a sound journal with its state
@@ -47,7 +47,7 @@ prints_soundly script is is_site =
 
 -- the book of a coordinator that a scenario opens
 abbrev pub opened : ScenarioValue → Book
-opened scenario = record { site = scenario.site; starts = scenario.starts; cap = MAX_CAP; journal = [] }
+opened scenario = start_book scenario.site scenario.starts MAX_CAP
 
 -- what is printed once the commands were carried out
 pub whole_is : (scenario : ScenarioValue) (commands : List Command) (new : Book) (told listed whole : List ℕ) → AreAnswered scenario.names (map (call_of scenario.site) commands) (opened scenario) new [] told

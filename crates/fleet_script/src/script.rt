@@ -1,6 +1,8 @@
 //! A script: read, carried out and printed.
 
-ghost use Rattle.std.specs.Prelude.{◌≡◌, ◌^◌, ◌-◌, ◌<◌, ◌≤◌, All, IfOk, OnOk, Ok, [], length};
+ghost use Rattle.std.specs.Prelude.{◌≡◌, ◌^◌, ◌-◌, ◌<◌, ◌≤◌, All, IfOk, OnOk, Ok, length};
+ghost use Rattle.coordinator.specs.Books.{start_book};
+ghost use Rattle.fleet_base.specs.declared.limits.TheConstants.{MAX_CAP};
 ghost use Rattle.fleet_commands.specs.Commands.{IsDeclared};
 ghost use Rattle.fleet_script.specs.Script.{ScriptValue, printed, script_of, script_text};
 ghost use Rattle.fleet_script.specs.Sound.{PrintsSoundly};
@@ -60,7 +62,7 @@ fn run(alloc: Global, script: Script) -> Result<Vec<u8>, NoMemory>
 fn open(alloc: Global, site: Site, starts: &Path) -> Result<Coordinator, NoMemory>
     requires few { length starts.now ≤ 64 }
     requires known { All (λ a. a.0 < site.cells) starts.now }
-    ensures { IfOk result (λ fleet. fleet ≡ record { site = site; starts = starts.now; cap = MAX_CAP; journal = [] }) }
+    ensures { IfOk result (λ fleet. fleet ≡ start_book site starts.now MAX_CAP) }
 {
     // The starts of a scenario are some and don't conflict, so what is refused lacks memory.
     match Coordinator::new(alloc, site, starts.cells(), MAX_CAP) {

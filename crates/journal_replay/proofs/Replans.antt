@@ -16,7 +16,7 @@ use Rattle.fleet_base.specs.declared.entries.Entry.{Entry}
 use Rattle.fleet_base.specs.declared.numbers.CellNo.{CellNo}
 use Rattle.fleet_base.specs.declared.numbers.EventNo.{EventNo}
 use Rattle.fleet_base.specs.declared.numbers.Span.{Span}
-use Rattle.fleet_model.specs.Calls.{accepted, detour_of, first_of, replan, replan_refusals, span_of, with_route}
+use Rattle.fleet_model.specs.Calls.{accepted, detour_of, first_of, in_segment, merge_growth, replan, replan_refusals, span_of, with_route}
 use Rattle.fleet_model.specs.Journals.{last_of}
 use Rattle.fleet_model.specs.Lists.{In, first_some, here, there, has_cell}
 use Rattle.fleet_model.specs.Plans.{IsRoute, end_of}
@@ -125,14 +125,14 @@ pub replan_gives : (s : State) (r : ℕ) (goal : CellNo → Bool) (span : Span) 
 replan_gives s r goal span answer =
     let detour = detour_of s.fleet r goal in
     let route = unwrap_or detour [] in
-    (route, (accepted_gives (first_some (replan_refusals s r goal detour)) s (span_of s route) r (Replanned route (first_of s)) (with_route s r route) span (ok_is span (replan s r goal).answer answer)).0)
+    (route, (accepted_gives (first_some (replan_refusals s r goal detour)) s (span_of s route) r (Replanned route (first_of s)) (in_segment s (merge_growth s route) (with_route s r route)) span (ok_is span (replan s r goal).answer answer)).0)
 
 -- a refused one adds none
 replan_adds_none : (s : State) (r : ℕ) (goal : CellNo → Bool) (e : ReplanRefused) → e ≢ replan_refused.NoMemory → IsReplanAnswer (Err e) (replan s r goal).answer → (replan s r goal).entry ≡ None
 replan_adds_none s r goal e some answer =
     let detour = detour_of s.fleet r goal in
     let route = unwrap_or detour [] in
-    refused_gives (first_some (replan_refusals s r goal detour)) s (accepted (span_of s route) r (Replanned route (first_of s)) (with_route s r route)) (span_of s route) e refl (err_is e (replan s r goal).answer some answer)
+    refused_gives (first_some (replan_refusals s r goal detour)) s (accepted (span_of s route) r (Replanned route (first_of s)) (in_segment s (merge_growth s route) (with_route s r route))) (span_of s route) e refl (err_is e (replan s r goal).answer some answer)
 
 not_taken : (s : State) (r : ℕ) (goal : CellNo → Bool) (entry : Entry) (e : ReplanRefused) → e ≢ replan_refused.NoMemory → IsReplanAnswer (Err e) (replan s r goal).answer → (replan s r goal).entry ≡ Some entry → ⊥
 not_taken s r goal entry e some answer given = (let none = replan_adds_none s r goal e some answer in cc)

@@ -4,17 +4,14 @@ use Rattle.std.specs.Prelude.{IfErr}
 use Rattle.std.specs.Result.{IsErrAnd}
 use Rattle.std.proofs.lemmas.List.{length-take, take_more}
 use Rattle.fleet_base.specs.declared.entries.Entry.{Entry}
-use Rattle.fleet_base.specs.declared.numbers.CellNo.{CellNo}
-use Rattle.coordinator.specs.Books.{Book, state_of}
+use Rattle.coordinator.specs.Books.{Book, opening_of, state_of}
 use Rattle.fleet_model.specs.Journals.{IsJournal, state_after, turn_at}
-use Rattle.fleet_model.specs.States.{State, start_state}
-use Rattle.site_map.specs.Built.{BuiltSite}
-use Rattle.site_map.specs.Claims.{site_of}
+use Rattle.fleet_model.specs.States.{State}
 use Rattle.journal_replay.specs.Differing.{DiffersAt}
-use Rattle.journal_replay.specs.Refusals.{OnDiffers}
+use Rattle.journal_replay.specs.Refusals.{OnEntry}
 use Rattle.journal_replay.specs.Taken.{IsGiven, IsReplayed}
-use Rattle.journal_replay.specs.declared.refused.ReplayRefused.{ReplayRefused}
-use Rattle.journal_replay.specs.declared.refused.ReplayRefused.TheVariants.{New, Differs, NoMemory}
+use Rattle.journal_replay.specs.declared.refused.EntriesRefused.{EntriesRefused}
+use Rattle.journal_replay.specs.declared.refused.EntriesRefused.TheVariants.{Differs, NoMemory}
 
 -- a legal journal with one more entry that is given is legal
 pub given_more : (s : State) (before : List Entry) (entry : Entry) → IsJournal s before → IsGiven (state_after s before) entry → IsJournal s (before ++ entry ∷ [])
@@ -27,22 +24,22 @@ last_given s [] entry is = is.0
 last_given s (e ∷ es) entry is = last_given (turn_at s e).after es entry is.1
 
 -- the book of a coordinator that these entries were replayed on
-abbrev pub book_of : BuiltSite → List CellNo → ℕ → List Entry → Book
-book_of site starts cap entries = record { site = site; starts = starts; cap = cap; journal = entries }
+abbrev pub book_of : Book → List Entry → Book
+book_of opened entries = record opened { journal = entries }
 
-module _ (site : BuiltSite) (starts : List CellNo) (cap : ℕ) (entries : List Entry) (i : ℕ) (entry : Entry) (within : i < length entries) (at : get_or entries i entry ≡ entry) where
+module _ (opened : Book) (entries : List Entry) (i : ℕ) (entry : Entry) (within : i < length entries) (at : get_or entries i entry ≡ entry) where
   abbrev opening : State
-  opening = start_state (site_of site) starts cap
+  opening = opening_of opened
 
   pub more : take (i + 1) entries ≡ take i entries ++ entry ∷ []
   more = take_more entries i entry within ∙ ap (λ e. take i entries ++ e ∷ []) at
 
   -- an entry that is given is replayed too
-  pub stands_more : (book : Book) → book ≡ book_of site starts cap (take i entries) → IsJournal opening (take i entries) → IsGiven (state_of book) entry → IsJournal opening (take (i + 1) entries)
+  pub stands_more : (book : Book) → book ≡ book_of opened (take i entries) → IsJournal opening (take i entries) → IsGiven (state_of book) entry → IsJournal opening (take (i + 1) entries)
   stands_more book is replayable given = subst (IsJournal opening) (sym more) (given_more opening (take i entries) entry replayable (subst (λ (b : Book). IsGiven (state_of b) entry) is given))
 
   -- one that isn't is the first that differs
-  differs_here : (book : Book) (number : ℕ) → book ≡ book_of site starts cap (take i entries) → IsJournal opening (take i entries) → (IsGiven (state_of book) entry → ⊥) → number ≡ length book.journal + 1 → DiffersAt opening entries number
+  differs_here : (book : Book) (number : ℕ) → book ≡ book_of opened (take i entries) → IsJournal opening (take i entries) → (IsGiven (state_of book) entry → ⊥) → number ≡ length book.journal + 1 → DiffersAt opening entries number
   differs_here book number is replayable differs numbers =
       let count : length book.journal ≡ i = ap (λ (b : Book). length b.journal) is ∙ length_first in
       let next : number ≡ i + 1 = omega (arith, numbers, count) in
@@ -57,12 +54,11 @@ module _ (site : BuiltSite) (starts : List CellNo) (cap : ℕ) (entries : List E
       length_first = simp length-take (omega (arith, within))
 
   -- so a refusal that names an entry names the first that differs
-  pub refused_here : (book : Book) (cause : ReplayRefused) → book ≡ book_of site starts cap (take i entries) → IsJournal opening (take i entries) → IsReplayed entry book (Err cause) → OnDiffers (DiffersAt opening entries) cause
-  refused_here book (New cause) is replayable replayed = tt
+  pub refused_here : (book : Book) (cause : EntriesRefused) → book ≡ book_of opened (take i entries) → IsJournal opening (take i entries) → IsReplayed entry book (Err cause) → OnEntry (DiffersAt opening entries) cause
   refused_here book (Differs number) is replayable replayed = differs_here book number is replayable replayed.0 replayed.1
   refused_here book NoMemory is replayable replayed = tt
 
 -- what is handed on keeps what holds of it
-pub kept_on : {A : Type 0} (P : ReplayRefused → Type 0) (result : Result A ReplayRefused) (cause : ReplayRefused) → IsErrAnd result (λ e. e ≡ cause) → P cause → IfErr result P
+pub kept_on : {A E : Type 0} (P : E → Type 0) (result : Result A E) (cause : E) → IsErrAnd result (λ e. e ≡ cause) → P cause → IfErr result P
 kept_on P (Ok a) cause is holds = tt
 kept_on P (Err e) cause is holds = subst P (sym is) holds

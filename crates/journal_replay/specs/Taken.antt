@@ -12,8 +12,8 @@ use Rattle.fleet_model.specs.Journals.{turn_at}
 use Rattle.fleet_model.specs.States.{State}
 use Rattle.journal_replay.specs.declared.entry.EntryRefused.{EntryRefused}
 use Rattle.journal_replay.specs.declared.entry.EntryRefused.TheVariants.{Differs, NoMemory}
-use Rattle.journal_replay.specs.declared.refused.ReplayRefused.{ReplayRefused}
-use Rattle.journal_replay.specs.declared.refused.ReplayRefused.TheVariants as replaying
+use Rattle.journal_replay.specs.declared.refused.EntriesRefused.{EntriesRefused}
+use Rattle.journal_replay.specs.declared.refused.EntriesRefused.TheVariants as entries
 
 -- a refusal of a proposal, and of a retry
 abbrev pub of_proposal : ProposeRefused → EntryRefused
@@ -54,8 +54,7 @@ IsTaken entry old new (Err Differs) = IsGiven (state_of old) entry → ⊥
 IsTaken entry old new (Err NoMemory) = Unit {0}
 
 -- The same of one entry of a journal: one that differs is numbered behind those that stand in the book.
-abbrev pub IsReplayed : Entry → Book → Result Book ReplayRefused → Type 0
+abbrev pub IsReplayed : Entry → Book → Result Book EntriesRefused → Type 0
 IsReplayed entry book (Ok new) = IsGiven (state_of book) entry × (new ≡ with_entries book (entry ∷ []))
-IsReplayed entry book (Err (replaying.Differs n)) = (IsGiven (state_of book) entry → ⊥) × (n ≡ length book.journal + 1)
-IsReplayed entry book (Err (replaying.New cause)) = ⊥
-IsReplayed entry book (Err replaying.NoMemory) = Unit {0}
+IsReplayed entry book (Err (entries.Differs n)) = (IsGiven (state_of book) entry → ⊥) × (n ≡ length book.journal + 1)
+IsReplayed entry book (Err entries.NoMemory) = Unit {0}

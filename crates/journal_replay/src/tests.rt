@@ -1,10 +1,11 @@
 //! Journals of robots at a junction, in the middle of which, cell 1, three lanes meet.
 
-use crate::refused::ReplayRefused;
-use crate::replay::{replay, replay_entry};
+use crate::refused::{EntriesRefused, ReplayRefused, ResumeRefused};
+use crate::replay::{replay, replay_entry, resume};
 use coordinator::coordinator::Coordinator;
 use coordinator::refused::NewRefused;
 use fleet_base::entries::{Act, Entry};
+use fleet_base::marks::Checkpoint;
 use fleet_base::numbers::{CellNo, EventNo, RobotNo};
 use fleet_base::path::{NoMemory, Path};
 use fleet_base::robot_list::RobotList;
@@ -144,7 +145,30 @@ fn entries_are_replayed_one_by_one(rt: HostRuntime) -> Result<(), Fail> {
     let fleet = replay_entry(fleet, &merged).map_err(|_| "differs")?;
     assert_eq!(rt; fleet.journal().len(), 1);
     let again = replay_entry(fleet, &merged).map(|fleet| fleet.journal().len());
-    assert_eq!(rt; again, Err(ReplayRefused::Differs { entry: 2 }));
+    assert_eq!(rt; again, Err(EntriesRefused::Differs { entry: 2 }));
+    Ok(())
+}
+
+#[test]
+fn entries_are_resumed_from_a_checkpoint(rt: HostRuntime) -> Result<(), Fail> {
+    let alloc = rt.alloc();
+    let mut at = Vec::new(alloc);
+    at.push(CellNo(1))?;
+    let mut pending = Vec::new(alloc);
+    pending.push(None)?;
+    let from = Checkpoint {
+        next: EventNo(4),
+        at,
+        pending,
+    };
+    let differs = Err(ResumeRefused::Differs { entry: 1 });
+    for (first, next) in [(4, Ok(EventNo(7))), (5, differs)] {
+        let site = junction(alloc)?;
+        assert!(rt; site.cell_count() == 4);
+        let told = entries(alloc, &[(0, Told::Merged(1, 0, first))])?;
+        let resumed = resume(alloc, site, &from, 4, &told);
+        assert_eq!(rt; resumed.map(|fleet| fleet.next_number()), next);
+    }
     Ok(())
 }
 

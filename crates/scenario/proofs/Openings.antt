@@ -60,6 +60,7 @@ clash s is r q c d a b differ conflict one other held taken = by_order (cases_lt
 pub may_open : (s : ScenarioValue) → IsScenario s → (cap : ℕ) → IsOpening (site_of s.site) s.starts (map (λ a. None) s.starts) 1 cap
 may_open s is cap = record {
   first = omega arith;
+  bounded = omega arith;
   apart = λ r q c d differ conflict one other.
       let held = held_at (site_of s.site) (slice_get s.starts r) c one in
       let taken = held_at (site_of s.site) (slice_get s.starts q) d other in
@@ -67,4 +68,5 @@ may_open s is cap = record {
   places = length-map s.starts (λ a. None);
   routes = λ r route e. absurd (none_pending s.starts r route e);
   room = omega (arith, none_counted s.starts);
+  total = omega (arith, none_counted s.starts);
 }

@@ -1,7 +1,12 @@
 use Rattle.fleet_replay.specs.Stops.{of_journal}
-use Rattle.fleet_replay.proofs.Runs.{entry_fails, rest_fails, run_ends, stands_on}
+use Rattle.fleet_replay.proofs.Runs.{entry_fails, line_fails, rest_fails, run_ends, stands_on}
 use Rattle.fleet_replay.proofs.Stops.{handed_on}
 use Rattle.fleet_replay.proofs.journal.replay_journal.Goals as goal
+
+pub returns-in_err-entry-clause-is : goal.returns-in_err-entry-clause-is
+returns-in_err-entry-clause-is c =
+    let cause = c.in_err-entry.field-0.0 in
+    handed_on _ _ _ (of_journal cause) c.from_residual-in_err-entry.ensures.1 (line_fails c.read_entry.new.place c.loop-fleet.invariant.stands cause c.in_err-entry.ensures.is)
 
 pub returns-in_err-read_rest-in-Err-clause-is : goal.returns-in_err-read_rest-in-Err-clause-is
 returns-in_err-read_rest-in-Err-clause-is c =

@@ -1,4 +1,4 @@
-use Rattle.std.proofs.Common.{◌≡◌, Some, List, Ok, ap, subst, ◌∙◌}
+use Rattle.std.proofs.Common.{◌≡◌, Some, List, Ok, ap, subst, sym, ◌∙◌}
 use Rattle.std.specs.Option.{option_to_list}
 use Rattle.fleet_base.specs.declared.answers.Proposed.{Proposed}
 use Rattle.fleet_base.specs.declared.answers.Proposed.TheVariants as proposed
@@ -9,7 +9,8 @@ use Rattle.fleet_base.specs.declared.numbers.RobotNo.{RobotNo}
 use Rattle.coordinator.specs.Books.{IsAnswer, state_of, with_entries}
 use Rattle.fleet_model.specs.Calls.{propose}
 use Rattle.journal_replay.proofs.Gives.{answer_is, entry_of, taken}
-use Rattle.journal_replay.proofs.Proposals.{proposal_gives}
+use Rattle.journal_replay.proofs.Proposals.{proposal_gives, refused_taken}
+use Rattle.journal_replay.proofs.Replans.{handed_on}
 use Rattle.journal_replay.proofs.entry.take_deferred.Goals as goal
 
 pub returns-in-Deferred : goal.returns-in-Deferred
@@ -30,3 +31,12 @@ returns-in-Deferred c =
     let told : (propose s r route).entry ≡ Some (entry_of r (Deferred route cycle)) =
     subst (λ (cs : List CellNo). (propose s r cs).entry ≡ Some (entry_of r (Deferred cs cycle))) same_route (given ∙ ap (λ (k : List RobotNo). Some (entry_of r (Deferred cells k))) same_cycle) in
     taken old new (entry_of r (Deferred route cycle)) told (subst (λ (cs : List CellNo). new ≡ with_entries old (option_to_list (propose s r cs).entry)) same_route c.in_ok-block.ensures.book)
+
+pub returns-in_err-block : goal.returns-in_err-block
+returns-in_err-block c =
+    let old = c.args.fleet.now in
+    let new = c.propose.new.self in
+    let entry = entry_of c.args.robot.0 (Deferred c.args.route.now c.args.cycle.now) in
+    let told = ap (λ (cs : List CellNo). (propose (state_of old) c.args.robot.0 cs).entry) (sym c.cells.ensures) in
+    handed_on entry old new c.from_residual.result _ c.from_residual.ensures.1
+    (refused_taken old new c.args.robot.0 c.cells.result.now entry told c.in_err-block.field-0.0 c.in_err-block.ensures.answer)

@@ -7,11 +7,11 @@ overflow_cast-before c =
     let kept = c.journal.ensures in
     let few = entries_few c.args.fleet kept.site kept.opening kept.legal kept.state in
     let same = ap length kept.entries in
-    omega (arith, few, same, c.requires)
+    omega (arith, few, same)
 
 pub overflow_add-result : goal.overflow_add-result
 overflow_add-result c =
     let kept = c.journal.ensures in
     let few = entries_few c.args.fleet kept.site kept.opening kept.legal kept.state in
     let same = ap length kept.entries in
-    omega (arith, few, same, c.requires)
+    omega (arith, few, same)
