@@ -1,0 +1,4 @@
+pub mod Lists
+pub mod Keeps
+pub mod Resting
+pub mod Wholes
