@@ -1,0 +1,13 @@
+pub mod Zeros
+pub mod SumLemmas
+pub mod PairingLemmas
+pub mod NumberLemmas
+pub mod Checks
+pub mod TreeLemmas
+pub mod Turns
+pub mod Exploring
+pub mod Lifting
+pub mod Settling
+pub mod Limiting
+pub mod Finishing
+pub mod Unique

@@ -1,0 +1,9 @@
+pub mod Squares
+pub mod Sums
+pub mod Pairings
+pub mod Assignments
+pub mod Bounds
+pub mod Trees
+pub mod Lifts
+pub mod Limits
+pub mod Finished
