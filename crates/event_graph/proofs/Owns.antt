@@ -1,23 +1,22 @@
 -- The events of a robot, and its queue.
-use Rattle.std.proofs.Common.{◌≡◌, ◌≢◌, ℕ, zero, suc, ◌+◌, ◌-◌, ◌<◌, ◌≤◌, ◌==◌, Bool, true, false, not, ◌⊎◌, inl, inr, refl, sym, ap, ◌∙◌, subst, List, [], ◌∷◌, ◌++◌, length, map, get_or, set, take, drop, replicate, arith, Option, Some, None, eq-eqb}
+use Rattle.std.proofs.Common.{◌≡◌, ℕ, zero, suc, ◌+◌, ◌-◌, ◌<◌, ◌==◌, true, not, ◌⊎◌, inl, inr, refl, sym, ap, ◌∙◌, subst, List, [], ◌∷◌, ◌++◌, length, map, get_or, set, take, drop, arith, Option, Some, None, eq-eqb}
 use Rattle.std.specs.Prelude.{slice_get}
 use Rattle.std.specs.List.{filter}
 use Rattle.std.specs.Option.{option_map}
 use Rattle.std.proofs.lemmas.Bool.{cases_eq, ne_eqb, not_from_false}
-use Rattle.std.proofs.lemmas.List.{append-nil, length-append, length-map, length-set, map-append, map_push, take_at, get_or-set_same, get_or-set_other, get_or-replicate, length-replicate}
+use Rattle.std.proofs.lemmas.List.{append-nil, length-append, length-set, map_push, take_at, get_or-set_same, get_or-set_other}
 use Rattle.std.proofs.lemmas.List.Elements.{filter-append}
 use Rattle.std.proofs.lemmas.Option.{none-some, same_Some, slice_get-map}
 use Rattle.fleet_base.specs.declared.numbers.ClaimGroup.{ClaimGroup}
 use Rattle.fleet_base.specs.declared.numbers.Event.{Event}
-use Rattle.fleet_base.specs.declared.numbers.EventNo.{EventNo}
 use Rattle.fleet_model.specs.Lists.{In, here, there}
-use Rattle.fleet_model.specs.Plans.{own, is_awaited, IsBehind}
+use Rattle.fleet_model.specs.Plans.{own, is_awaited}
 use Rattle.fleet_model.specs.Good.{IsAscending}
 use Rattle.fleet_model.proofs.Filters.{filter_all, filter_out, filter_swap}
 use Rattle.fleet_model.proofs.Lists.{In-nil, In_either}
 use Rattle.fleet_model.proofs.Numbers.{own_one, own_other, own_In, In_own, one_event, low_bound, ascending_apart, IsAscending-own}
 use Rattle.number_queues.specs.Queues.{queue_of}
-use Rattle.event_graph.specs.Graphs.{IsReadyAmong, HasNumber, without_number}
+use Rattle.event_graph.specs.Graphs.{IsReadyAmong, without_number}
 use Rattle.event_graph.specs.Stores.{AreQueued, HasNone}
 use Rattle.event_graph.proofs.Changes.{none_behind, ready_from}
 use Rattle.event_graph.proofs.Cuts.{drop_at, drop_none}

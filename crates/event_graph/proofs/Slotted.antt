@@ -1,22 +1,21 @@
 -- The slots and the events in them.
-use Rattle.std.proofs.Common.{◌≡◌, ◌≢◌, ℕ, zero, suc, ◌+◌, ◌-◌, ◌<◌, ◌≤◌, ◌==◌, Bool, true, false, not, cond, ◌⊎◌, inl, inr, refl, sym, ap, ◌∙◌, subst, List, [], ◌∷◌, ◌++◌, length, map, get_or, set, take, drop, arith, Option, Some, None, eq-eqb}
+use Rattle.std.proofs.Common.{◌≡◌, ℕ, zero, suc, ◌+◌, ◌<◌, ◌≤◌, ◌==◌, true, not, inl, inr, refl, sym, ap, ◌∙◌, subst, List, [], ◌∷◌, ◌++◌, length, get_or, set, take, drop, arith, Option, Some, None, eq-eqb}
 use Rattle.std.specs.List.{filter}
 use Rattle.std.proofs.lemmas.Bool.{cases_lt, cases_eq, cases_order, ne_eqb, not_from_false}
-use Rattle.std.proofs.lemmas.List.{length-append, length-set, get_or-set_same, get_or-set_other, get_or_past, get_or-take, get_or-drop, get_or-map, set_split, take-append-drop, drop_more, drop_all, take_more, map-set, append_assoc, length-map}
+use Rattle.std.proofs.lemmas.List.{length-append, length-set, get_or-set_same, get_or-set_other, get_or_past, get_or_push, get_or_append_left, get_or-take, get_or-drop, length-drop, set_split, take-append-drop, drop_more}
 use Rattle.std.proofs.lemmas.List.Elements.{filter-append}
 use Rattle.std.proofs.lemmas.Option.{none-some, same_Some}
 use Rattle.fleet_base.specs.declared.numbers.Event.{Event}
 use Rattle.fleet_base.specs.declared.numbers.EventNo.{EventNo}
 use Rattle.fleet_base.specs.declared.numbers.Kind.{Kind}
 use Rattle.fleet_base.specs.declared.numbers.Kind.TheVariants.{Acquire, Move, Release}
-use Rattle.fleet_model.specs.Lists.{In, here, there}
-use Rattle.fleet_model.specs.Plans.{own}
+use Rattle.fleet_model.specs.Lists.{In, here}
 use Rattle.fleet_model.specs.Good.{IsAscending}
 use Rattle.fleet_model.proofs.Filters.{filter_all, filter_out}
-use Rattle.fleet_model.proofs.Lists.{In_either, In-append_left, In-append_right, In-append_cases}
-use Rattle.fleet_model.proofs.Numbers.{ascending_apart, ascending_behind, IsAscending_front}
+use Rattle.fleet_model.proofs.Lists.{In_either, In-append_right}
+use Rattle.fleet_model.proofs.Numbers.{ascending_apart, ascending_behind}
 use Rattle.event_graph.specs.Graphs.{IsKnown, without_number}
-use Rattle.event_graph.specs.Stores.{events_of, claim_key, claim_of, HasEvent}
+use Rattle.event_graph.specs.Stores.{events_of, claim_key, claim_of, AreEmptyBelow, AreNumbered, HasEvent}
 use Rattle.slot_chains.specs.Slots.{IsWithin}
 
 pub events-append : (xs ys : List (Option Event)) → events_of (xs ++ ys) ≡ events_of xs ++ events_of ys
@@ -97,16 +96,43 @@ module _ (slots : List (Option Event)) (low : ℕ) (rises : IsAscending low (eve
       let c = length-append (events_of (take i slots)) (e ∷ events_of (drop (i + 1) slots)) in
       rw (a, events_split slots i e h) (omega arith)
 
--- a slot isn't empty
-abbrev pub is_full : Option Event → Bool
-is_full None = false
-is_full (Some e) = true
+-- events stay where empty slots in front are left out
+pub events_dropped : (slots : List (Option Event)) (count : ℕ) → AreEmptyBelow slots count → events_of (drop count slots) ≡ events_of slots
+events_dropped slots zero empty = refl
+events_dropped [] (suc n) empty = refl
+events_dropped (s ∷ slots) (suc n) empty =
+    events_dropped slots n (λ i l. empty (suc i) (omega arith))
+    ∙ ap (λ o. events_of (o ∷ slots)) (sym (empty zero (omega arith)))
 
--- the empty slots hold no events
-pub events_full : (slots : List (Option Event)) → events_of (filter is_full slots) ≡ events_of slots
-events_full [] = refl
-events_full (None ∷ slots) = events_full slots
-events_full (Some e ∷ slots) = ap (λ es. e ∷ es) (events_full slots)
+-- slots of consecutive numbers are so where the first ones are left out, where one is emptied, and with the next event at the end
+module _ (slots : List (Option Event)) (next : ℕ) (numbered : AreNumbered slots next) where
+  pub numbered_dropped : (count : ℕ) → count ≤ length slots → AreNumbered (drop count slots) next
+  numbered_dropped count within i e h =
+      let at = numbered (count + i) e (sym (get_or-drop count slots i None) ∙ h) in
+      omega (arith, at, length-drop count slots, within)
+
+  pub numbered_emptied : (i : ℕ) (e : Event) → HasEvent slots i e → AreNumbered (set slots i None) next
+  numbered_emptied i e has j f h = elim (cases_eq j i) [
+    | inl same ↦ absurd (none-some f (sym (get_or-set_same slots i None None (slot_within slots i e has)) ∙ ap (λ k. get_or (set slots i None) k None) (sym same) ∙ h))
+    | inr other ↦ let at = numbered j f (sym (get_or-set_other slots i j None None other) ∙ h) in omega (arith, at, length-set slots i None)
+  ]
+
+  pub numbered_pushed : (e : Event) → e.no.0 ≡ next → AreNumbered (slots ++ Some e ∷ []) (next + 1)
+  numbered_pushed e first i f h = elim (cases_lt i (length slots)) [
+    | inl within ↦ let at = numbered i f (sym (get_or_append_left slots (Some e ∷ []) None i within) ∙ h) in omega (arith, at, length-append slots (Some e ∷ []))
+    | inr above ↦ elim (cases_eq i (length slots)) [
+      | inl last ↦
+          let same : e ≡ f = same_Some e f (sym (get_or_push slots (Some e) None i (sym last)) ∙ h) in
+          omega (arith, first, last, ap (λ (x : Event). x.no.0) same, length-append slots (Some e ∷ []))
+      | inr past ↦ absurd (none-some f (sym (get_or_past (slots ++ Some e ∷ []) i None (omega (arith, above, past, length-append slots (Some e ∷ [])))) ∙ h))
+    ]
+  ]
+
+  -- an event is in the slot of its number
+  pub slot_of : (e : Event) → In e (events_of slots) → (i : ℕ) × HasEvent slots i e × (e.no.0 + length slots ≡ next + i) × (i < length slots)
+  slot_of e m =
+      let at = In_slot slots e m in
+      (at.0, at.1, numbered at.0 e at.1, slot_within slots at.0 e at.1)
 
 -- the chain of a slot is one of the chains
 pub known_within : (n : ℕ) (k : Kind) → IsKnown n k → IsWithin (claim_of k) n

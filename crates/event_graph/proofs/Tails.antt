@@ -1,6 +1,5 @@
 -- A robot's last events leave one after another.
-use Rattle.std.proofs.Common.{◌≡◌, ℕ, zero, suc, ◌+◌, ◌-◌, ◌<◌, ◌≤◌, ◌==◌, Bool, true, false, not, ◌||◌, cond, ◌⊎◌, inl, inr, refl, sym, ap, ◌∙◌, subst, List, [], ◌∷◌, ◌++◌, length, take, drop, arith, eq-eqb, Option, Some, None}
-use Rattle.std.specs.Prelude.{slice_get}
+use Rattle.std.proofs.Common.{◌≡◌, ℕ, ◌+◌, ◌-◌, ◌<◌, ◌==◌, Bool, true, false, not, ◌||◌, cond, inl, inr, refl, sym, ap, ◌∙◌, subst, List, [], ◌∷◌, ◌++◌, length, take, drop, arith, eq-eqb}
 use Rattle.std.specs.List.{filter}
 use Rattle.std.proofs.lemmas.Bool.{cases_eq, ne_eqb, not_from_false}
 use Rattle.std.proofs.lemmas.List.{append-nil, append_assoc, take-append-drop, take_at, drop_at, length-append, length-take}
@@ -8,8 +7,7 @@ use Rattle.std.proofs.lemmas.List.Elements.{filter-append}
 use Rattle.std.proofs.lemmas.Option.{slice_get_cases, slice_get_past}
 use Rattle.fleet_base.specs.declared.numbers.ClaimGroup.{ClaimGroup}
 use Rattle.fleet_base.specs.declared.numbers.Event.{Event}
-use Rattle.fleet_base.specs.declared.numbers.EventNo.{EventNo}
-use Rattle.fleet_model.specs.Lists.{In, here}
+use Rattle.fleet_model.specs.Lists.{here}
 use Rattle.fleet_model.specs.Plans.{own, is_done}
 use Rattle.fleet_model.specs.Good.{IsAscending}
 use Rattle.fleet_model.proofs.Filters.{filter_all, filter_out, filter_swap}

@@ -1,5 +1,5 @@
 -- Walks along the slots of a chain.
-use Rattle.std.proofs.Common.{◌≡◌, ◌≢◌, ℕ, zero, suc, ◌+◌, ◌-◌, ◌<◌, ◌≤◌, ◌==◌, Bool, true, false, not, cond, ◌⊎◌, inl, inr, refl, sym, ap, ◌∙◌, subst, List, [], ◌∷◌, ◌++◌, length, map, get_or, set, take, drop, arith, Option, Some, None}
+use Rattle.std.proofs.Common.{◌≡◌, ℕ, ◌+◌, ◌-◌, ◌<◌, ◌≤◌, not, inl, inr, refl, sym, ap, ◌∙◌, subst, List, length, map, get_or, arith, Option, Some, None}
 use Rattle.std.proofs.lemmas.Bool.{cases_lt, cases_eq}
 use Rattle.std.proofs.lemmas.List.{get_or-map, length-map}
 use Rattle.std.proofs.lemmas.Option.{none-some, same_Some}
@@ -7,7 +7,7 @@ use Rattle.fleet_base.specs.declared.numbers.Event.{Event}
 use Rattle.fleet_base.specs.declared.numbers.EventNo.{EventNo}
 use Rattle.fleet_model.specs.Lists.{In}
 use Rattle.fleet_model.specs.Good.{IsAscending}
-use Rattle.event_graph.specs.Stores.{events_of, claim_key, claim_of, HasEvent, HasNone, HasOne, IsGreatest}
+use Rattle.event_graph.specs.Stores.{events_of, HasEvent, HasNone, IsGreatest}
 use Rattle.event_graph.proofs.Slotted.{slot_within, slot_In, In_slot, slots_apart}
 use Rattle.slot_chains.specs.Slots.{IsIn, IsFirst, IsLast}
 use Rattle.slot_chains.proofs.Pushes.{in_range}

@@ -1,5 +1,5 @@
 -- How the unfinished events are stored: slots in order of number, those of a claim chained, and for each robot the numbers of its events.
-use Rattle.std.specs.Prelude.{◌≡◌, ℕ, ◌<◌, ◌≤◌, ◌⊎◌, true, List, [], ◌∷◌, length, map, slice_index_or, Option, Some, None}
+use Rattle.std.specs.Prelude.{◌≡◌, ℕ, ◌+◌, ◌<◌, ◌≤◌, ◌⊎◌, true, List, [], ◌∷◌, length, map, slice_index_or, Option, Some, None}
 use Rattle.fleet_base.specs.declared.numbers.ClaimGroup.{ClaimGroup}
 use Rattle.fleet_base.specs.declared.numbers.ClaimNo.{ClaimNo}
 use Rattle.fleet_base.specs.declared.numbers.Event.{Event}
@@ -8,7 +8,6 @@ use Rattle.fleet_base.specs.declared.numbers.Kind.{Kind}
 use Rattle.fleet_base.specs.declared.numbers.Kind.TheVariants.{Acquire, Move, Release}
 use Rattle.fleet_model.specs.Lists.{In}
 use Rattle.fleet_model.specs.Plans.{own, is_awaited}
-use Rattle.fleet_model.specs.Good.{IsAscending}
 use Rattle.number_queues.specs.Queues.{Queues, queue_of}
 use Rattle.slot_chains.specs.Slots.{Slots}
 
@@ -71,15 +70,13 @@ abbrev pub IsGreatest : (Event → Type 0) → List Event → Option EventNo →
 IsGreatest P events None = HasNone P events
 IsGreatest P events (Some n) = ((e : Event) × In e events × P e × (e.no ≡ n)) × ((e : Event) → In e events → P e → e.no.0 ≤ n.0)
 
--- the first event from one slot up to another; None where all those slots are empty
-abbrev pub IsFirstKept : List (Option Event) → ℕ → ℕ → Option (ℕ × Event) → Type 0
-IsFirstKept slots from to None = (i : ℕ) → from ≤ i → i < to → slice_index_or slots i None ≡ None
-IsFirstKept slots from to (Some (i, e)) = (from ≤ i) × (i < to) × HasEvent slots i e × ((j : ℕ) → from ≤ j → j < i → slice_index_or slots j None ≡ None)
+-- the slots are those of consecutive numbers up to the next one, so that an event is found by its number
+abbrev pub AreNumbered : List (Option Event) → ℕ → Type 0
+AreNumbered slots next = (i : ℕ) (e : Event) → HasEvent slots i e → e.no.0 + length slots ≡ next + i
 
--- an event of this number, and its slot, where there is one
-abbrev pub IsFound : List (Option Event) → EventNo → Option (ℕ × Event) → Type 0
-IsFound slots n None = Unit {0}
-IsFound slots n (Some (i, e)) = HasEvent slots i e × (e.no ≡ n)
+-- the first slots, so many, are empty
+abbrev pub AreEmptyBelow : List (Option Event) → ℕ → Type 0
+AreEmptyBelow slots count = (i : ℕ) → i < count → slice_index_or slots i None ≡ None
 
 -- the later of two numbers, where there is one
 abbrev pub IsLater : Option EventNo → Option EventNo → Option EventNo → Type 0

@@ -7,7 +7,9 @@ ghost use Rattle.fleet_model.specs.Plans.{own, numbered};
 ghost use Rattle.event_graph.specs.Graphs.{IsGraph, IsKnown, AreApart, HasNumber, AtNumber, IsReadyAmong, HasReady, greatest_after, has_waiting, without_number, without_events, tail_of, IsUnawaited, HasSameSetting, IsUnchanged};
 
 use crate::reach::{Reach, reaches};
-use crate::store::{claim_of, compact, find, greatest, is_ready, is_waited_for, own_at};
+use crate::store::{
+    claim_of, empty_in_front, find, greatest, is_ready, is_waited_for, leave_out, own_at,
+};
 use fleet_base::limits::{MAX_CLAIMS, MAX_ROBOTS};
 use fleet_base::numbers::{ClaimGroup, Event, EventNo, Kind, RobotNo};
 use fleet_base::path::NoMemory;
@@ -255,14 +257,17 @@ impl EventGraph {
         }
     }
 
-    /// Leaves out the empty slots, where there is no room for so many more and most are empty.
+    /// Leaves out the empty slots in front, where there is no room for so many more and they are the
+    /// greater part.
     fn leave_out_empty(&mut self, more: usize)
         ensures { IsUnchanged self.old self.new }
     {
         let slots = self.slots.len();
-        let room = self.slots.capacity() - slots;
-        if room < more && slots as u64 / 2 > self.kept {
-            compact(&mut self.slots, &mut self.claims);
+        if self.slots.capacity() - slots < more {
+            let empty = empty_in_front(&self.slots);
+            if slots / 2 < empty {
+                leave_out(&mut self.slots, &mut self.claims, empty);
+            }
         }
     }
 

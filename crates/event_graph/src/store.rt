@@ -1,8 +1,9 @@
-//! How the unfinished events are stored: in slots in order of number. The slots of a claim's
-//! acquires and releases are chained, and each robot has a queue of the numbers of its events. The
-//! slot of a finished event stays empty until slots are asked for.
+//! How the unfinished events are stored: in slots of consecutive numbers, so that an event is found
+//! by its number. The slots of a claim's acquires and releases are chained, and each robot has a
+//! queue of the numbers of its events. The slot of a finished event is empty, and is left out once
+//! no slot in front of it has an event.
 
-ghost use Rattle.std.specs.Prelude.{◌≡◌, ◌↔◌, ℕ, ◌+◌, ◌<◌, ◌≤◌, ◌^◌, ◌++◌, ◌∷◌, [], true, false, Some, None, length, slice_get, slice_index_or, slice_set, IsTrue, IfOk, OnOk, MatchOption, map};
+ghost use Rattle.std.specs.Prelude.{◌≡◌, ◌↔◌, ℕ, ◌+◌, ◌<◌, ◌≤◌, ◌^◌, ◌++◌, ◌∷◌, [], true, false, Some, None, length, slice_get, slice_index_or, slice_set, drop, IsTrue, IfOk, OnOk, MatchOption, map};
 ghost use Rattle.std.specs.Vec.{vec_capacity};
 ghost use Rattle.std.specs.Prelude.{vec_len};
 ghost use Rattle.fleet_base.specs.declared.numbers.Event.{Event as AnEvent};
@@ -11,7 +12,7 @@ ghost use Rattle.fleet_model.specs.Plans.{own, is_awaited};
 ghost use Rattle.fleet_model.specs.Good.{IsAscending};
 ghost use Rattle.event_graph.specs.Graphs.{HasNumber, IsKnown, IsReadyAmong, greatest_after, has_waiting};
 ghost use Rattle.event_graph.specs.Reaches.{IsReached};
-ghost use Rattle.event_graph.specs.Stores.{events_of, claim_of, claim_key, AreKeyed, HasEvent, HasNone, HasOne, IsGreatest, IsBehindIn, IsInFrontIn, IsFirstKept, IsFound, IsLater};
+ghost use Rattle.event_graph.specs.Stores.{events_of, claim_of, claim_key, AreKeyed, HasEvent, HasNone, HasOne, IsGreatest, IsBehindIn, IsInFrontIn, AreEmptyBelow, AreNumbered, IsLater};
 
 use crate::reach::{Reach, conflict, reach_at};
 use fleet_base::numbers::{ClaimGroup, ClaimNo, Event, EventNo, Kind};
@@ -39,45 +40,7 @@ pub(crate) fn claim_of(kind: Kind) -> Option<u32>
     }
 }
 
-/// The first event from one slot up to another, and its slot.
-fn first_kept(slots: &[Option<Event>], from: u32, to: u32) -> Option<(u32, Event)>
-    requires { to ≤ length slots.now }
-    ensures { IsFirstKept slots.now from to result }
-{
-    for slot in from..to {
-        if let Some(event) = slots[slot as usize] {
-            return Some((slot, event));
-        }
-    }
-    None
-}
-
-/// The event with this number and its slot, where the slots from there on are those of consecutive
-/// numbers, so many of them.
-fn at_distance(
-    slots: &[Option<Event>],
-    count: u32,
-    back: u64,
-    number: EventNo,
-) -> Option<(u32, Event)>
-    requires { count ≡ length slots.now }
-    ensures { IsFound slots.now number result }
-{
-    if back == 0 || u64::from(count) < back {
-        return None;
-    }
-    let slot = count - back as u32;
-    if let Some(event) = slots[slot as usize] {
-        if event.no.0 == number.0 {
-            return Some((slot, event));
-        }
-    }
-    None
-}
-
-/// The slot of the event with this number, and the event. The number of the next event is a hint:
-/// by it an event is found at once where the slots from its own on are those of consecutive
-/// numbers, as they are until empty slots are left out.
+/// The slot of the event with this number, and the event. `next` is the number of the next event.
 pub(crate) fn find(
     slots: &[Option<Event>],
     claims: &SlotChains,
@@ -85,34 +48,17 @@ pub(crate) fn find(
     number: EventNo,
 ) -> (u32, Event)
     requires keyed { claims.now.keys ≡ map claim_key slots.now }
-    requires rises { IsAscending 0 (events_of slots.now) }
+    requires numbered { AreNumbered slots.now next }
     requires has { HasNumber (events_of slots.now) number }
     ensures slot { HasEvent slots.now result.0 result.1 }
     ensures number { result.1.no ≡ number }
 {
-    let count = claims.len();
-    if let Some(found) = at_distance(slots, count, next.saturating_sub(number.0), number) {
-        return found;
-    }
-    let mut low = 0;
-    let mut high = count;
-    while low < high {
-        let middle = low + (high - low) / 2;
-        match first_kept(slots, middle, high) {
-            Some((slot, event)) => {
-                if event.no.0 == number.0 {
-                    return (slot, event);
-                }
-                if event.no.0 < number.0 {
-                    low = slot + 1;
-                } else {
-                    high = middle;
-                }
-            }
-            None => high = middle,
-        }
-    }
-    unreachable!()
+    let back = next - number.0;
+    let slot = (u64::from(claims.len()) - back) as u32;
+    let Some(event) = slots[slot as usize] else {
+        unreachable!()
+    };
+    (slot, event)
 }
 
 /// Whether e stands behind f, which another robot does.
@@ -367,6 +313,7 @@ pub(crate) fn own_at(
 ) -> Option<Event>
     requires keyed { AreKeyed slots.now robots.now claims.now }
     requires rises { IsAscending 0 (events_of slots.now) }
+    requires numbered { AreNumbered slots.now next }
     requires robot { robot < length robots.now.queues }
     ensures { result ≡ slice_get (own robot (events_of slots.now)) index }
 {
@@ -376,15 +323,31 @@ pub(crate) fn own_at(
     Some(find(slots, claims, next, EventNo(number)).1)
 }
 
-/// Leaves out the empty slots.
-pub(crate) fn compact(slots: &mut Vec<Option<Event>>, claims: &mut SlotChains)
+/// How many slots in front are empty.
+pub(crate) fn empty_in_front(slots: &[Option<Event>]) -> usize
+    ensures within { result ≤ length slots.now }
+    ensures empty { AreEmptyBelow slots.now result }
+{
+    for slot in 0..slots.len() {
+        if slots[slot].is_some() {
+            return slot;
+        }
+    }
+    slots.len()
+}
+
+/// Leaves out the first slots, so many, which are empty.
+pub(crate) fn leave_out(slots: &mut Vec<Option<Event>>, claims: &mut SlotChains, count: usize)
     requires keyed { claims.old.keys ≡ map claim_key slots.old.items }
     requires known { (e : AnEvent) → In e (events_of slots.old.items) → IsKnown claims.old.chains e.kind }
-    ensures events { events_of slots.new.items ≡ events_of slots.old.items }
+    requires within { count ≤ length slots.old.items }
+    requires empty { AreEmptyBelow slots.old.items count }
+    ensures slots { slots.new.items ≡ drop count slots.old.items }
     ensures keyed { claims.new.keys ≡ map claim_key slots.new.items }
     ensures chains { claims.new.chains ≡ claims.old.chains }
 {
-    slots.retain(|slot| slot.is_some());
+    slots.rotate_left(count);
+    slots.truncate(slots.len() - count);
     claims.clear();
     for slot in slots.iter() {
         claims.push(claim_key(*slot));

@@ -1,4 +1,4 @@
-use Rattle.std.proofs.Common.{◌≡◌, ℕ, ◌<◌, ◌≤◌, length, Some}
+use Rattle.std.proofs.Common.{◌≡◌, ℕ, ◌<◌, ◌≤◌, Some}
 use Rattle.std.specs.Prelude.{slice_get}
 use Rattle.fleet_base.specs.declared.numbers.ClaimGroup.{ClaimGroup}
 use Rattle.event_graph.proofs.reach.reach_of.Given as goal

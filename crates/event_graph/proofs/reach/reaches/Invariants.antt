@@ -1,4 +1,4 @@
-use Rattle.std.proofs.Common.{◌≡◌, ℕ, ◌<◌, Some, length}
+use Rattle.std.proofs.Common.{◌≡◌, ℕ, Some, length}
 use Rattle.std.specs.Prelude.{slice_get}
 use Rattle.fleet_base.specs.declared.numbers.ClaimGroup.{ClaimGroup}
 use Rattle.event_graph.specs.declared.reach.Reach.{Reach}

@@ -1,5 +1,4 @@
-use Rattle.std.proofs.Common.{◌≡◌, sym, ◌∙◌, arith, Some, None, true}
-use Rattle.std.specs.Prelude.{slice_get}
+use Rattle.std.proofs.Common.{sym, ◌∙◌, arith}
 use Rattle.event_graph.specs.Stores.{events_of, IsBehindIn}
 use Rattle.event_graph.proofs.Awaits.{reach_end, behind_reach, behind_unreached, behind_wide, behind_empty, only_acquires, greatest_more, greatest_is, greatest_none}
 use Rattle.event_graph.proofs.store.greatest.Goals as goal

@@ -1,4 +1,4 @@
-use Rattle.std.proofs.Common.{◌≡◌, ◌+◌, ◌<◌, ℕ, false, true, refl, sym, ap, ◌∙◌, subst, map, length, arith, Some, None}
+use Rattle.std.proofs.Common.{◌+◌, refl, sym, ap, ◌∙◌, subst, map, length, arith, Some, None}
 use Rattle.std.proofs.lemmas.Bool.{both_ways}
 use Rattle.std.proofs.lemmas.List.{length-map}
 use Rattle.event_graph.specs.Stores.{claim_key, IsInFrontIn}

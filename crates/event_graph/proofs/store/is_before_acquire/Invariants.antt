@@ -1,4 +1,4 @@
-use Rattle.std.proofs.Common.{ℕ, ◌+◌, ◌<◌, length}
+use Rattle.std.proofs.Common.{ℕ, ◌+◌}
 use Rattle.event_graph.specs.Stores.{IsInFrontIn}
 use Rattle.event_graph.proofs.Walks.{back, IsPassedBack}
 use Rattle.slot_chains.specs.Slots.{IsLast}

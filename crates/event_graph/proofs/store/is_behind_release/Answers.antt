@@ -1,9 +1,9 @@
-use Rattle.std.proofs.Common.{◌≡◌, ◌+◌, false, true, refl, sym, ap, ◌∙◌, subst, map, Some, None}
+use Rattle.std.proofs.Common.{◌+◌, refl, sym, ◌∙◌, subst, map, Some, None}
 use Rattle.std.proofs.lemmas.Bool.{both_ways}
 use Rattle.event_graph.specs.Stores.{claim_key, IsBehindIn}
 use Rattle.event_graph.proofs.Awaits.{behind_key, behind_below, behind_at}
 use Rattle.event_graph.proofs.Slotted.{slot_In}
-use Rattle.event_graph.proofs.Walks.{event_at, event_key, passed_more, passed_end, passed_beyond}
+use Rattle.event_graph.proofs.Walks.{event_at, passed_more, passed_end, passed_beyond}
 use Rattle.slot_chains.specs.Slots.{IsIn, IsFirst}
 use Rattle.event_graph.proofs.store.is_behind_release.Goals as goal
 use Rattle.event_graph.proofs.store.is_behind_release.Goals.{In-Some-slots}

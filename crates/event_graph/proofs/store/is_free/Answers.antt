@@ -1,4 +1,4 @@
-use Rattle.std.proofs.Common.{◌≡◌, sym, ◌∙◌, arith}
+use Rattle.std.proofs.Common.{sym, ◌∙◌, arith}
 use Rattle.event_graph.proofs.Awaits.{reach_end, behind_reach, behind_unreached, behind_wide}
 use Rattle.event_graph.proofs.store.is_free.Goals as goal
 

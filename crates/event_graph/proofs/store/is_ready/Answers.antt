@@ -1,4 +1,4 @@
-use Rattle.std.proofs.Common.{◌≡◌, ℕ, Some, None, false, refl, sym, ◌∙◌}
+use Rattle.std.proofs.Common.{false, refl, sym, ◌∙◌}
 use Rattle.std.proofs.lemmas.Bool.{both_ways, true_from_ne_false}
 use Rattle.fleet_model.specs.Plans.{own}
 use Rattle.event_graph.specs.Stores.{events_of}

@@ -1,4 +1,4 @@
-use Rattle.std.proofs.Common.{◌≡◌, sym, ◌∙◌, arith, refl}
+use Rattle.std.proofs.Common.{sym, ◌∙◌, arith}
 use Rattle.event_graph.specs.Stores.{events_of}
 use Rattle.event_graph.proofs.Awaits.{reach_end, front_reach, front_unreached, front_wide, only_releases, waiting_from, waiting_none}
 use Rattle.event_graph.proofs.store.is_waited_for.Goals as goal

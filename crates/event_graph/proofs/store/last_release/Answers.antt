@@ -1,4 +1,4 @@
-use Rattle.std.proofs.Common.{◌≡◌, ◌+◌, false, true, refl, sym, ap, ◌∙◌, subst, map, Some, None}
+use Rattle.std.proofs.Common.{◌+◌, refl, sym, ◌∙◌, subst, map, Some, None}
 use Rattle.std.proofs.lemmas.Bool.{both_ways}
 use Rattle.event_graph.specs.Stores.{claim_key, IsBehindIn}
 use Rattle.event_graph.proofs.Awaits.{behind_key, behind_below, behind_at}

@@ -1,7 +1,6 @@
-use Rattle.std.proofs.Common.{ℕ, ◌+◌, ◌<◌, length}
-use Rattle.fleet_base.specs.declared.numbers.Event.{Event}
+use Rattle.std.proofs.Common.{ℕ, ◌+◌, length}
 use Rattle.event_graph.specs.Stores.{IsBehindIn}
-use Rattle.event_graph.proofs.Walks.{ahead, IsPassed, IsBest}
+use Rattle.event_graph.proofs.Walks.{ahead, IsBest}
 use Rattle.slot_chains.specs.Slots.{IsFirst}
 use Rattle.event_graph.proofs.store.last_release.Given as goal
 

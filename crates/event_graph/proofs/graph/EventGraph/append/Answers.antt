@@ -4,9 +4,9 @@ use Rattle.fleet_base.specs.declared.numbers.Event.{Event}
 use Rattle.fleet_base.specs.declared.numbers.Kind.{Kind}
 use Rattle.fleet_base.specs.declared.numbers.Kind.TheVariants.{Acquire}
 use Rattle.fleet_model.specs.Plans.{numbered}
-use Rattle.event_graph.specs.Stores.{events_of, claim_key, AreQueued}
+use Rattle.event_graph.specs.Stores.{events_of, claim_key, AreNumbered, AreQueued}
 use Rattle.event_graph.proofs.Changes.{numbered_more}
-use Rattle.event_graph.proofs.Slotted.{events-append, known_within}
+use Rattle.event_graph.proofs.Slotted.{events-append, known_within, numbered_pushed}
 use Rattle.event_graph.proofs.Scanning.{In_get_or}
 use Rattle.event_graph.proofs.Storing.{appended, chained_pushed}
 use Rattle.event_graph.proofs.Owns.{queue_pushed}
@@ -35,6 +35,7 @@ loop-kind-preserved c =
         by_claim = subst (λ (slots : List (Option Event)). c.push-in-loop-kind.new.self.keys ≡ map claim_key slots) (sym c.push_reserved.ensures.items)
             (chained_pushed c.loop-kind.self-inside.slots.items c.loop-kind.self-inside.claims c.push-in-loop-kind.new.self (Some e) c.loop-kind.invariant.keyed.by_claim (c.push-in-loop-kind.ensures.keys ∙ ap (λ o. c.loop-kind.self-inside.claims.keys ++ o ∷ []) c.claim_of.ensures));
       };
+      placed = subst (λ (slots : List (Option Event)). AreNumbered slots (c.loop-kind.self-inside.next_no + 1)) (sym c.push_reserved.ensures.items) (numbered_pushed c.loop-kind.self-inside.slots.items c.loop-kind.self-inside.next_no c.loop-kind.invariant.placed e refl);
       events = ap events_of c.push_reserved.ensures.items ∙ (events-append c.loop-kind.self-inside.slots.items (Some e ∷ []) ∙ (ap (λ es. es ++ e ∷ []) c.loop-kind.invariant.events
           ∙ (append_assoc old new (e ∷ []) ∙ ap (λ es. old ++ es) (sym (numbered_more c.self.inside.next_no c.args.robot.0 c.args.kinds.now c.loop-kind.kind-index blank c.loop-kind.self-inside.next_no c.loop-kind-test.true c.loop-kind.invariant.number)))));
       robots = ap length c.push.ensures.queues ∙ (length-set _ _ _ ∙ c.loop-kind.invariant.robots);
@@ -57,6 +58,6 @@ invariant_of-self c =
     let apart = rw (← c.self.view_is) at c.requires.apart in
     rw (c.loop-kind.invariant.groups, c.loop-kind.invariant.reaches)
     (appended _ _ _ _ _ _ _ c.self.invariant c.args.robot.0 c.args.kinds.now few robot known apart
-    c.loop-kind.self-inside.slots.items c.loop-kind.self-inside.robots c.loop-kind.self-inside.claims c.loop-kind.self-inside.kept c.loop-kind.self-inside.next_no c.loop-kind.invariant.keyed
+    c.loop-kind.self-inside.slots.items c.loop-kind.self-inside.robots c.loop-kind.self-inside.claims c.loop-kind.self-inside.kept c.loop-kind.self-inside.next_no c.loop-kind.invariant.keyed c.loop-kind.invariant.placed
     (c.loop-kind.invariant.events ∙ ap (λ ks. events_of c.self.inside.slots.items ++ numbered c.self.inside.next_no c.args.robot.0 ks) all)
     c.loop-kind.invariant.robots c.loop-kind.invariant.claims c.loop-kind.invariant.kept (c.loop-kind.invariant.number ∙ ap (λ n. c.self.inside.next_no + n) last))

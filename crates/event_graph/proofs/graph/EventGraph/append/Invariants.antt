@@ -1,7 +1,7 @@
 use Rattle.std.proofs.Common.{◌≡◌, ◌+◌, ◌++◌, length, take, vec_len}
 use Rattle.std.specs.Vec.{vec_capacity}
 use Rattle.fleet_model.specs.Plans.{numbered}
-use Rattle.event_graph.specs.Stores.{events_of, AreKeyed}
+use Rattle.event_graph.specs.Stores.{events_of, AreKeyed, AreNumbered}
 use Rattle.event_graph.proofs.graph.EventGraph.append.Given as goal
 
 abbrev pub invariant-loop-kind : goal.invariant-loop-kind
@@ -9,6 +9,7 @@ invariant-loop-kind l = record {
   groups : l.self-inside.groups ≡ l.initial.self-inside.groups;
   reaches : l.self-inside.reaches ≡ l.initial.self-inside.reaches;
   keyed : AreKeyed l.self-inside.slots.items l.self-inside.robots l.self-inside.claims;
+  placed : AreNumbered l.self-inside.slots.items l.self-inside.next_no;
   events : events_of l.self-inside.slots.items ≡ events_of l.initial.self-inside.slots.items ++ numbered l.initial.self-inside.next_no l.robot.0 (take l.kind-index l.kinds);
   robots : length l.self-inside.robots.queues ≡ length l.initial.self-inside.robots.queues;
   claims : l.self-inside.claims.chains ≡ l.initial.self-inside.claims.chains;

@@ -1,4 +1,4 @@
-use Rattle.std.proofs.Common.{◌≡◌, ◌<◌, ◌-◌, ◌∙◌, Option, Some, None, List, [], ◌∷◌, ◌++◌, ℕ, not, map, ap, sym, subst, refl, length, take, set, arith}
+use Rattle.std.proofs.Common.{◌≡◌, ◌<◌, ◌-◌, ◌∙◌, Option, Some, None, List, [], ◌∷◌, ◌++◌, not, map, ap, sym, subst, refl, length, take, set, arith}
 use Rattle.std.proofs.lemmas.List.{take_all, length-take, length-set}
 use Rattle.std.specs.Prelude.{slice_get}
 use Rattle.std.proofs.lemmas.Option.{none-some, same_Some}
@@ -8,12 +8,12 @@ use Rattle.fleet_model.specs.Plans.{own, is_done}
 use Rattle.fleet_model.specs.Good.{IsAscending}
 use Rattle.fleet_model.specs.Lists.{In, here}
 use Rattle.fleet_model.proofs.Lists.{In-append_right}
-use Rattle.fleet_model.proofs.Numbers.{IsAscending-filter, own_In, one_event}
+use Rattle.fleet_model.proofs.Numbers.{IsAscending-filter, own_In}
 use Rattle.number_queues.specs.Queues.{queue_of}
-use Rattle.event_graph.specs.Graphs.{without_number, without_events, tail_of}
-use Rattle.event_graph.specs.Stores.{events_of, HasEvent, AreQueued}
+use Rattle.event_graph.specs.Graphs.{without_number, tail_of}
+use Rattle.event_graph.specs.Stores.{events_of, AreNumbered, AreQueued}
 use Rattle.event_graph.proofs.Owns.{number_of, split_last, queued_last, queue_cut}
-use Rattle.event_graph.proofs.Slotted.{emptied, emptied_count}
+use Rattle.event_graph.proofs.Slotted.{emptied, emptied_count, numbered_emptied}
 use Rattle.event_graph.proofs.Storing.{cut, chained_emptied}
 use Rattle.event_graph.proofs.Tails.{tail_none, events_less, owns_less}
 use Rattle.event_graph.proofs.graph.EventGraph.cut_tail.Goals as goal
@@ -25,6 +25,7 @@ loop-gone-init c = record {
   reaches = refl;
   number = refl;
   keyed = c.self.invariant.keyed;
+  numbered = c.self.invariant.numbered;
   robots = refl;
   claims = refl;
   counted = c.self.invariant.counted;
@@ -35,7 +36,7 @@ loop-gone-init c = record {
 pub invariant_of-self : goal.invariant_of-self
 invariant_of-self c =
     rw (c.loop-gone.invariant.groups, c.loop-gone.invariant.reaches, c.loop-gone.invariant.number)
-    (cut _ _ _ _ _ _ _ c.self.invariant c.args.robot.0 c.loop-gone._gone c.loop-gone.self-inside.slots.items c.loop-gone.self-inside.robots c.loop-gone.self-inside.claims c.loop-gone.self-inside.kept c.loop-gone.invariant.keyed c.loop-gone.invariant.counted c.loop-gone.invariant.robots c.loop-gone.invariant.claims c.loop-gone.invariant.events)
+    (cut _ _ _ _ _ _ _ c.self.invariant c.args.robot.0 c.loop-gone._gone c.loop-gone.self-inside.slots.items c.loop-gone.self-inside.robots c.loop-gone.self-inside.claims c.loop-gone.self-inside.kept c.loop-gone.invariant.keyed (subst (λ n. AreNumbered c.loop-gone.self-inside.slots.items n) c.loop-gone.invariant.number c.loop-gone.invariant.numbered) c.loop-gone.invariant.counted c.loop-gone.invariant.robots c.loop-gone.invariant.claims c.loop-gone.invariant.events)
 
 enough : (c : In-loop-gone) → c.loop-gone._gone < length (own c.args.robot.0 (events_of c.self.inside.slots.items))
 enough c = let a = rw (← c.self.view_is) at c.requires.unfinished in let b = c.loop-gone-test.true in omega arith
@@ -61,9 +62,6 @@ invariant_of-self-in_default c = absurd (none-some _ (sym c.in_default.is ∙ (c
 
 pub returns-in_default-clause-events : goal.returns-in_default-clause-events
 returns-in_default-clause-events c = absurd (none-some _ (sym c.in_default.is ∙ (c.pop_back.ensures.last ∙ last_is (goal.at.returns-in_default-clause-events c).In-loop-gone)))
-
-pub find-slot-requires-clause-rises : goal.find-slot-requires-clause-rises
-find-slot-requires-clause-rises c = rw c.deref.ensures.value (rises (goal.at.find-slot-requires-clause-rises c).In-loop-gone)
 
 pub find-slot-requires-clause-has : goal.find-slot-requires-clause-has
 find-slot-requires-clause-has c =
@@ -102,6 +100,7 @@ loop-gone-preserved c =
             (subst (λ r. c.pop_back.new.self.queues ≡ set c.loop-gone.self-inside.robots.queues r (take (length (queue_of r c.loop-gone.self-inside.robots.queues) - 1) (queue_of r c.loop-gone.self-inside.robots.queues))) robot c.pop_back.ensures.queues));
         by_claim = chained_emptied slots c.loop-gone.self-inside.claims c.remove.new.self c.find-slot.result.0 c.loop-gone.invariant.keyed.by_claim c.remove.ensures.keys;
       };
+      numbered = numbered_emptied slots c.loop-gone.self-inside.next_no c.loop-gone.invariant.numbered c.find-slot.result.0 c.find-slot.result.1 slot;
       robots = ap length c.pop_back.ensures.queues ∙ (length-set _ _ _ ∙ c.loop-gone.invariant.robots);
       claims = c.remove.ensures.chains ∙ c.loop-gone.invariant.claims;
       counted = (let a = c.loop-gone.invariant.counted in omega (arith, emptied_count slots 0 up c.find-slot.result.0 c.find-slot.result.1 slot));

@@ -1,7 +1,7 @@
 use Rattle.std.proofs.Common.{◌≡◌, ◌-◌, take, length}
 use Rattle.fleet_model.specs.Plans.{own}
 use Rattle.event_graph.specs.Graphs.{without_events, tail_of}
-use Rattle.event_graph.specs.Stores.{events_of, AreKeyed}
+use Rattle.event_graph.specs.Stores.{events_of, AreKeyed, AreNumbered}
 use Rattle.event_graph.proofs.graph.EventGraph.cut_tail.Given as goal
 
 abbrev pub invariant-loop-gone : goal.invariant-loop-gone
@@ -10,6 +10,7 @@ invariant-loop-gone l = record {
   reaches : l.self-inside.reaches ≡ l.initial.self-inside.reaches;
   number : l.self-inside.next_no ≡ l.initial.self-inside.next_no;
   keyed : AreKeyed l.self-inside.slots.items l.self-inside.robots l.self-inside.claims;
+  numbered : AreNumbered l.self-inside.slots.items l.self-inside.next_no;
   robots : length l.self-inside.robots.queues ≡ length l.initial.self-inside.robots.queues;
   claims : l.self-inside.claims.chains ≡ l.initial.self-inside.claims.chains;
   counted : l.self-inside.kept ≡ length (events_of l.self-inside.slots.items);

@@ -1,4 +1,4 @@
-use Rattle.std.proofs.Common.{◌≡◌, ◌∙◌, ap, length}
+use Rattle.std.proofs.Common.{◌∙◌, ap, length}
 use Rattle.std.proofs.lemmas.List.{length-set}
 use Rattle.fleet_base.specs.declared.numbers.EventNo.{EventNo}
 use Rattle.event_graph.proofs.Slotted.{emptied, slot_In}

@@ -1,5 +1,3 @@
-use Rattle.std.proofs.Common.{◌≡◌, ◌∙◌, ap, sym, subst, length, arith}
-use Rattle.event_graph.specs.Reaches.{IsReached}
 use Rattle.event_graph.proofs.Storing.{empty_stored}
 use Rattle.event_graph.proofs.graph.EventGraph.new.Goals as goal
 

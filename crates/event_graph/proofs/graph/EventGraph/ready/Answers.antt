@@ -1,4 +1,4 @@
-use Rattle.std.proofs.Common.{◌≡◌, ◌↔◌, IsTrue}
+use Rattle.std.proofs.Common.{◌↔◌, IsTrue}
 use Rattle.fleet_base.specs.declared.numbers.Event.{Event}
 use Rattle.event_graph.specs.Graphs.{IsReadyAmong}
 use Rattle.event_graph.specs.Stores.{events_of}

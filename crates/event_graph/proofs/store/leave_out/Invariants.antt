@@ -1,6 +1,6 @@
 use Rattle.std.proofs.Common.{◌≡◌, ◌+◌, take, map}
 use Rattle.event_graph.specs.Stores.{claim_key}
-use Rattle.event_graph.proofs.store.compact.Given as goal
+use Rattle.event_graph.proofs.store.leave_out.Given as goal
 
 abbrev pub invariant-loop-slot : goal.invariant-loop-slot
 invariant-loop-slot l = record {
