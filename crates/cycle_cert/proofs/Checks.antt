@@ -12,11 +12,12 @@ use Rattle.fleet_base.specs.declared.numbers.RobotNo.{RobotNo}
 use Rattle.fleet_model.specs.Cycles.{leads, are_distinct, is_cycle}
 use Rattle.fleet_model.proofs.Cycles.{cycle_parts, cycle_from, cycle_on}
 use Rattle.fleet_model.proofs.Distinct.{distinct_split}
-use Rattle.cycle_cert.specs.Members.{is_in, leads_known}
+use Rattle.bit_set.specs.Words.{is_in}
+use Rattle.cycle_cert.specs.Members.{leads_known}
 use Rattle.cycle_cert.proofs.Shortcuts.{leads_behind}
 use Rattle.cycle_cert.proofs.LeastWays.{cycle_inside}
 use Rattle.cycle_cert.proofs.Levels.{leads_below_64}
-use Rattle.cycle_cert.proofs.Bits.{is_in-zero}
+use Rattle.bit_set.proofs.WordBits.{is_in-zero}
 
 -- the next number begins the rest, which leads back to z; where there is no rest it is z
 abbrev pub LeadsBack : (ℕ → ℕ → Bool) → ℕ → ℕ → List ℕ → Type 0

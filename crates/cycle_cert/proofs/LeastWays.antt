@@ -1,6 +1,6 @@
 -- The least way back by the first level that has the number is the least cycle.
-use Rattle.std.proofs.Common.{suc, ◌≡◌, ℕ, ◌<◌, ◌≤◌, Bool, true, ◌==◌, ◌&&◌, ◌⊎◌, inl, inr, refl, sym, ap, subst, List, [], ◌∷◌, length, arith, eq-eqb}
-use Rattle.std.proofs.lemmas.Bool.{and_parts, and_from, or_left, or_right, cases_order, lt-ltb, false_from_ne_true}
+use Rattle.std.proofs.Common.{zero, suc, ◌≡◌, ℕ, ◌<◌, ◌≤◌, Bool, true, ◌==◌, ◌&&◌, ◌⊎◌, inl, inr, refl, sym, ap, subst, List, [], ◌∷◌, length, arith, eq-eqb}
+use Rattle.std.proofs.lemmas.Bool.{cases_eq, cases_lt, and_parts, and_from, or_left, or_right, cases_order, lt-ltb, false_from_ne_true}
 use Rattle.std.specs.Prelude.{nat_lt}
 use Rattle.fleet_model.specs.Lists.{In}
 use Rattle.fleet_model.specs.Cycles.{leads, is_cycle, is_upto, precedes, IsLeastCycle}
@@ -116,3 +116,18 @@ Returns_none edge z v r = go r.over r.long r.closed
 
 pub none_Returns : (edge : ℕ → ℕ → Bool) (z v : ℕ) → edge v z ≡ true → Returns edge z 0 v
 none_Returns edge z v h = record { over = []; long = refl; closed = h }
+
+-- where all that lead back over k lead back over fewer, so do all that lead back over any number
+pub returns_within : (edge : ℕ → ℕ → Bool) (z k : ℕ) → ((a b : ℕ) → edge a b ≡ true → b < 64) → ((v : ℕ) → v < 64 → Returns edge z k v → (i : ℕ) × (i < k) × Returns edge z i v) → (j v : ℕ) → v < 64 → Returns edge z j v → (i : ℕ) × (i < k) × Returns edge z i v
+returns_within edge z k bounded near zero v known r = elim (cases_lt 0 k) [
+  | inl l ↦ (0, l, r)
+  | inr past ↦ near v known (let none : 0 ≡ k = omega arith in subst (λ n. Returns edge z n v) none r)
+]
+returns_within edge z k bounded near (suc j) v known r =
+    let n = Returns_next edge z j v r in
+    let rest = returns_within edge z k bounded near j n.0 (bounded v n.0 n.1) n.2 in
+    let more = Returns_step edge z rest.0 v n.0 n.1 rest.2 in
+    elim (cases_eq (suc rest.0) k) [
+      | inl same ↦ near v known (subst (λ m. Returns edge z m v) same more)
+      | inr other ↦ (suc rest.0, (let l = rest.1 in omega arith), more)
+    ]

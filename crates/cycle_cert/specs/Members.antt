@@ -1,20 +1,15 @@
--- Sets of numbers as the bits of a word.
-use Rattle.std.specs.Prelude.{◌≡◌, ℕ, ◌<◌, Bool, true, ◌&&◌, nat_lt, List, ◌==◌, slice_index}
-use Rattle.std.specs.Int.{bit_at}
+-- Robots that edges lead from.
+use Rattle.std.specs.Prelude.{◌≡◌, ℕ, Bool, true, ◌&&◌, nat_lt}
 use Rattle.std.specs.Ordering.{nat_cmp}
 use Rattle.std.specs.FinSet as set
 use Rattle.fleet_base.specs.EdgeSets.{leads}
+use Rattle.bit_set.specs.Words.{is_in}
 
--- the set has the number
-abbrev pub is_in : ℕ → ℕ → Bool
-is_in set robot = bit_at set robot == 1
-
--- v is in the row of some number of the set, below the bound
-pub record LeadsInto (rows : List ℕ) (set v bound : ℕ) : Type 0 where
+-- an edge leads from v to some number of the set
+pub record LeadsInto (edge : ℕ → ℕ → Bool) (set v : ℕ) : Type 0 where
   pub over : ℕ
-  pub below : over < bound
   pub member : is_in set over ≡ true
-  pub leads : is_in (slice_index rows over) v ≡ true
+  pub leads : edge v over ≡ true
 
 -- an edge leads from one robot below 64 to another
 abbrev pub leads_known : set.FinSet nat_cmp → ℕ → ℕ → Bool

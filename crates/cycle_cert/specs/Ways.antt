@@ -1,7 +1,7 @@
 -- Ways along edges back to a number.
 use Rattle.std.specs.Prelude.{◌≡◌, ℕ, ◌<◌, ◌≤◌, Bool, true, List, [], ◌∷◌, ◌↔◌, length, slice_index}
 use Rattle.fleet_model.specs.Cycles.{leads}
-use Rattle.cycle_cert.specs.Members.{is_in}
+use Rattle.bit_set.specs.Words.{is_in}
 
 -- from v, just so many numbers lead to z
 pub record Returns (edge : ℕ → ℕ → Bool) (z between v : ℕ) : Type 0 where

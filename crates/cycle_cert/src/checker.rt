@@ -6,7 +6,7 @@ ghost use Rattle.fleet_base.specs.Lists.{numbers_of};
 ghost use Rattle.fleet_model.specs.Cycles.{is_cycle};
 ghost use Rattle.cycle_cert.specs.Members.{leads_known};
 
-use crate::robot_sets::{has, with};
+use bit_set::word;
 use fleet_base::edges::Edges;
 use fleet_base::limits::MAX_ROBOTS;
 use fleet_base::numbers::RobotNo;
@@ -28,10 +28,10 @@ pub fn check_cycle(edges: &Edges, cycle: &RobotList) -> bool
         let Some(robot) = cycle.get(place) else {
             return false;
         };
-        if !leads_on(edges, robot, next) || has(seen, robot.0) {
+        if !leads_on(edges, robot, next) || word::has(seen, robot.0) {
             return false;
         }
-        seen = with(seen, robot.0);
+        seen = word::with(seen, robot.0);
         next = robot;
     }
     true

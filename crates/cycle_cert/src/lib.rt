@@ -2,7 +2,6 @@
 #![tactic(auto)]
 
 mod checker;
-mod robot_sets;
 mod rows;
 mod search;
 #[cfg(test)]

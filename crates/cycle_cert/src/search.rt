@@ -4,11 +4,11 @@ ghost use Rattle.std.specs.Prelude.{◌≡◌, ◌<◌, ◌≤◌, ℕ, true};
 ghost use Rattle.fleet_base.specs.EdgeSets.{leads};
 ghost use Rattle.fleet_base.specs.Lists.{numbers_of};
 ghost use Rattle.fleet_model.specs.Cycles as model;
-ghost use Rattle.cycle_cert.specs.Members.{is_in};
+ghost use Rattle.bit_set.specs.Words.{is_in};
 ghost use Rattle.cycle_cert.specs.Ways.{Returns, IsLeastWay, AreLevels, IsWayShown};
 
-use crate::robot_sets::has;
-use crate::rows::{before, rows_of};
+use crate::rows::{before, next_in, sources_of};
+use bit_set::word;
 use fleet_base::edges::Edges;
 use fleet_base::limits::MAX_ROBOTS;
 use fleet_base::numbers::RobotNo;
@@ -25,15 +25,22 @@ pub fn cycle_through(edges: &Edges, robot: RobotNo) -> RobotList
     ensures found { (n : ℕ) → ((r q : ℕ) → leads edges.now r q ≡ true → q < n)
         → numbers_of result ≡ model.cycle_through n (leads edges.now) robot.0 }
 {
-    let rows = rows_of(edges);
+    let sources = sources_of(edges);
     let mut levels = [0; 64];
-    let mut level = rows[robot.0 as usize];
+    let mut level = before(edges, sources, word::with(0, robot.0));
+    let mut seen = 0;
     for between in 0..MAX_ROBOTS {
-        if has(level, robot.0) {
+        if word::has(level, robot.0) {
             return way_back(edges, &levels, robot, between);
         }
+        // Where no robot is new, none is in any later level.
+        let reached = seen | level;
+        if reached == seen {
+            return RobotList::new();
+        }
+        seen = reached;
         levels[between as usize] = level;
-        level = before(&rows, level);
+        level = before(edges, sources, level);
     }
     RobotList::new()
 }
@@ -67,10 +74,5 @@ fn next_of(edges: &Edges, level: u64, at: RobotNo) -> RobotNo
     ensures inside { is_in level result.0 ≡ true }
     ensures least { (q : ℕ) → leads edges.now at.0 q ≡ true → is_in level q ≡ true → result.0 ≤ q }
 {
-    for robot in 0..MAX_ROBOTS {
-        if has(level, robot) && edges.has(at, RobotNo(robot)) {
-            return RobotNo(robot);
-        }
-    }
-    unreachable!()
+    next_in(edges, at, level).unwrap()
 }

@@ -1,4 +1,5 @@
-//! Cycles of two, three and five robots, two that share a robot, and none.
+//! Cycles of two, three and five robots, two that share a robot, one that leads to another robot, and
+//! none.
 
 use crate::{check_cycle, cycle_through};
 use fleet_base::edges::Edges;
@@ -21,6 +22,10 @@ fn finds_cycles(rt: HostRuntime) {
         (14, 10),
         (20, 20),
         (30, 0),
+        (40, 41),
+        (41, 40),
+        (41, 42),
+        (42, 43),
     ] {
         assert!(rt; from < 64 && to < 64);
         edges.set(RobotNo(from), RobotNo(to), true);
@@ -32,6 +37,7 @@ fn finds_cycles(rt: HostRuntime) {
         (63, 5, Some(RobotNo(12)), Some(RobotNo(10))),
         (20, 1, None, Some(RobotNo(20))),
         (30, 0, None, None),
+        (42, 0, None, None),
     ] {
         assert!(rt; robot < 64);
         let cycle = cycle_through(&edges, RobotNo(robot));

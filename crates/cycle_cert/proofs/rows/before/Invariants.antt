@@ -1,6 +1,10 @@
-use Rattle.std.proofs.Common.{◌≡◌, ◌↔◌, ℕ, true}
-use Rattle.cycle_cert.specs.Members.{is_in, LeadsInto}
+use Rattle.std.proofs.Common.{◌-◌}
+use Rattle.fleet_base.specs.EdgeSets.{leads}
+use Rattle.cycle_cert.proofs.Bits.{IsBefore}
 use Rattle.cycle_cert.proofs.rows.before.Given as goal
 
 abbrev pub invariant-loop-robot : goal.invariant-loop-robot
-invariant-loop-robot l = (v : ℕ) → (is_in l.found v ≡ true) ↔ LeadsInto l.rows l.set v l.robot
+invariant-loop-robot l = IsBefore (leads l.edges) l.set l.found l.bound
+
+abbrev pub decreases-loop-robot : goal.decreases-loop-robot
+decreases-loop-robot l = 64 - l.bound
