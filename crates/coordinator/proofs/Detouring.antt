@@ -14,10 +14,9 @@ use Rattle.deferral.specs.Backlogs as backlogs
 use Rattle.site_map.specs.Claims.{site_of}
 use Rattle.coordinator.specs.declared.coordinator.Coordinator.TheInside.{Inside}
 use Rattle.coordinator.specs.Kept.{IsKept}
-use Rattle.coordinator.specs.Replans.{IsDetour, is_shut_by}
+use Rattle.coordinator.specs.Replans.{IsDetour, is_shut_in}
 use Rattle.coordinator.proofs.KeptNext.{robot_is, site_is, state}
 use Rattle.coordinator.proofs.MergedRoutes.{cells_of, end_cell}
-use Rattle.coordinator.proofs.PendingRoutes.{ends_same}
 use Rattle.coordinator.proofs.Replans.{no_detour}
 use Rattle.coordinator.proofs.ShutCells.{shut_is}
 
@@ -34,13 +33,12 @@ module _ (c : Inside) (kept : IsKept c) (r : ℕ) (known : r < length c.from.at.
         let count : cell_count s.fleet.site ≡ c.site.cells = ap cell_count kept.state.site ∙ cells_of c.site in
         omega (arith, end_below, count, (site_is c kept).small)
 
-    module _ (goal shut : CellNo → Bool) (are : (a : CellNo) → shut a ≡ is_shut_by (site_of c.site) c.tables.robots.ends r a) where
+    module _ (goal shut : CellNo → Bool) (are : (a : CellNo) → shut a ≡ is_shut_in c.tables.deferrals (site_of c.site) r a) where
       shut_here : (a : CellNo) → shut a ≡ is_shut_to s.fleet r a
       shut_here a =
           are a
-          ∙ ap (λ z. is_shut_by z c.tables.robots.ends r a) (sym kept.state.site)
-          ∙ ap (λ es. is_shut_by s.fleet.site es r a) (sym (ends_same c kept))
-          ∙ shut_is s.fleet r a
+          ∙ ap (λ z. is_shut_in c.tables.deferrals z r a) (sym kept.state.site)
+          ∙ shut_is c.tables.deferrals s.fleet (record { groups = kept.tables.deferrals.groups; ends = kept.tables.deferrals.ends }) kept.tables.ends r a
 
       -- the detour is the least route past the cells that are shut
       detour_is : detour_of s.fleet r goal ≡ least_route (site_of c.site) goal shut end

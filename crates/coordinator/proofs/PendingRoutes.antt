@@ -1,7 +1,6 @@
 -- Pending routes and their blockers, over the tables.
 use Rattle.std.proofs.Common.{◌≡◌, ℕ, ◌<◌, ◌≤◌, List, length, get_or, Option, Some, None, sym, ap, subst, ◌∙◌, refl, arith}
-use Rattle.std.proofs.lemmas.Option.{slice_get-get_or}
-use Rattle.std.specs.Prelude.{All, slice_get, []}
+use Rattle.std.specs.Prelude.{slice_get, []}
 use Rattle.std.specs.Option.{option_map, unwrap_or}
 use Rattle.fleet_base.specs.Lists.{robots_of}
 use Rattle.fleet_base.specs.declared.answers.Block.{Block}
@@ -24,7 +23,6 @@ use Rattle.site_map.specs.Claims.{site_of}
 use Rattle.coordinator.specs.declared.coordinator.Coordinator.TheInside.{Inside}
 use Rattle.coordinator.specs.Kept.{IsKept}
 use Rattle.coordinator.proofs.KeptNext.{good, site_is, state}
-use Rattle.coordinator.proofs.MergedRoutes.{end_at, end_cell}
 
 module _ (c : Inside) (kept : IsKept c) where
   abbrev s : State
@@ -40,11 +38,6 @@ module _ (c : Inside) (kept : IsKept c) where
   -- a legal route has a shape
   pub shape_is : (r : ℕ) (route : List CellNo) → IsRoute s.fleet r route → shape_cause (site_of c.site) route ≡ None
   shape_is r route is = subst (λ z. shape_cause z route ≡ None) kept.state.site (walk_shape s.fleet.site (site_is c kept) route is.long is.short is.linked)
-
-  pub ends_known : All (λ (a : CellNo). a.0 < c.site.cells) c.tables.robots.ends
-  ends_known k d within =
-      let is = end_at c kept k (get_or c.tables.robots.ends k d) (slice_get-get_or c.tables.robots.ends k d within) in
-      subst (λ (a : CellNo). a.0 < c.site.cells) (sym is.1) (end_cell c kept k is.0)
 
   -- the block that a blocker makes
   abbrev pub made : State → ℕ → Blocker → Block

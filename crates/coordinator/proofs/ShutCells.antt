@@ -1,8 +1,6 @@
 -- Cells that are shut to a robot, and sets that are filled number by number.
 use Rattle.std.proofs.Common.{◌≡◌, ℕ, ◌+◌, ◌≤◌, Bool, true, false, not, ◌&&◌, ◌||◌, ◌==◌, inl, inr, refl, sym, ap, subst, ◌∙◌, List, [], ◌∷◌, length, None, Some, arith, add-one, eq-eqb}
 use Rattle.std.proofs.lemmas.Bool.{and_from, and_parts, cases_lt, le-ltb, lt-ltb, ne_eqb}
-use Rattle.std.proofs.lemmas.List.Folds.{list_any-append}
-use Rattle.std.proofs.lemmas.Option.{slice_get_past}
 use Rattle.std.specs.Prelude.{nat_lt, slice_get}
 use Rattle.std.specs.Cmp.{nat_cmp_total, unsigned_tied}
 use Rattle.std.specs.FinSet.{FinSet, contains, contains-insert, insert}
@@ -11,16 +9,17 @@ use Rattle.std.specs.Ordering.{nat_cmp}
 use Rattle.fleet_base.specs.declared.numbers.CellNo.{CellNo}
 use Rattle.fleet_base.specs.declared.numbers.ClaimNo.{ClaimNo}
 use Rattle.fleet_model.specs.Lists.{In, numbers_below}
-use Rattle.fleet_model.specs.Sites.{Site, footprint_of, in_conflict, is_kept_from}
+use Rattle.fleet_model.specs.Sites.{footprint_of}
 use Rattle.fleet_model.specs.Plans.{Fleet}
 use Rattle.fleet_model.specs.Deferral.{ends, is_kept_by, is_shut_to}
-use Rattle.fleet_model.proofs.Blockers.{length-ends}
-use Rattle.fleet_model.proofs.Tests.{In_any, any_In, any_none}
+use Rattle.fleet_model.proofs.Tests.{In_any, any_In}
 use Rattle.site_map.specs.Built.{BuiltSite}
-use Rattle.site_map.specs.Claims.{claim_total, groups_of, site_of}
-use Rattle.site_map.proofs.CellLemmas.{numbers_below_push}
-use Rattle.site_map.proofs.SiteLemmas.{footprint_past, length-groups}
-use Rattle.coordinator.specs.Replans.{is_kept_from_other, is_shut_by}
+use Rattle.site_map.specs.Claims.{site_of}
+use Rattle.site_map.proofs.SiteLemmas.{footprint_past}
+use Rattle.deferral.specs.Backlogs.{Backlog, end_claims, is_kept, is_kept_from}
+use Rattle.deferral.specs.Laws.{ShowsEnds}
+use Rattle.deferral.proofs.SiteBlockers.{kept_there}
+use Rattle.coordinator.specs.Replans.{is_shut_in}
 
 -- tests that imply each other agree
 pub same_tests : (b d : Bool) → (b ≡ true → d ≡ true) → (d ≡ true → b ≡ true) → b ≡ d
@@ -80,65 +79,42 @@ module _ (old : FinSet nat_cmp) (p : ℕ → Bool) (now : FinSet nat_cmp) (n : �
         | inr above ↦ rw (le-ltb k n above, none k above) refl
       ]
 
--- what is no claim of the site conflicts with none, and what is no cell of it isn't shut
+-- what is no cell of the site isn't shut
 module _ (built : BuiltSite) where
-  pub past_claims : (k : ℕ) (a : CellNo) → claim_total built ≤ k → is_kept_from (site_of built) (record { 0 = k }) a ≡ false
-  unfolding in_conflict
-  past_claims k a past =
-      let none : slice_get (groups_of built) k ≡ None = slice_get_past (groups_of built) k (omega (arith, past, length-groups built)) in
-      any_none (λ d. in_conflict (groups_of built) (record { 0 = k }) d) (footprint_of (site_of built) a) (λ d i. rw none refl)
+  pub past_cells : (b : Backlog) (r k : ℕ) → built.cells ≤ k → is_shut_in b (site_of built) r (record { 0 = k }) ≡ false
+  past_cells b r k past = ap (list_any (λ c. is_kept_from b r c.0)) (footprint_past built (record { 0 = k }) past)
 
-  pub past_cells : (ends : List CellNo) (r k : ℕ) → built.cells ≤ k → is_shut_by (site_of built) ends r (record { 0 = k }) ≡ false
-  past_cells ends r k past = ap (list_any (is_kept_from_other (site_of built) ends r)) (footprint_past built (record { 0 = k }) past)
+module _ (b : Backlog) (m : Fleet) (shows : ShowsEnds b m.site (ends m)) (long : length b.ends ≡ length m.starts) (r : ℕ) (a : CellNo) where
+  abbrev is_held : ℕ → ClaimNo → Bool
+  is_held q c = is_kept b.groups (end_claims b q) c.0
 
--- one robot more
-any_more : (p : ℕ → Bool) (n : ℕ) → list_any p (numbers_below (n + 1)) ≡ (list_any p (numbers_below n) || p n)
-any_more p n =
-    ap (λ k. list_any p (numbers_below k)) (add-one n)
-    ∙ ap (list_any p) (numbers_below_push n)
-    ∙ list_any-append p (numbers_below n) (n ∷ [])
-    ∙ ap (λ b. list_any p (numbers_below n) || b) (or_false (p n))
-
--- the end of one of the robots below n, other than r, keeps the claim
-abbrev pub is_kept_below : Site → List CellNo → ℕ → ℕ → ClaimNo → Bool
-is_kept_below site ends r n c = list_any (λ q. not (q == r) && is_kept_by site c (slice_get ends q)) (numbers_below n)
-
-module _ (site : Site) (ends : List CellNo) (r n : ℕ) (c : ClaimNo) where
-  -- the end of another robot
-  pub one_more : (a : CellNo) → (n == r) ≡ false → slice_get ends n ≡ Some a → (is_kept_below site ends r n c || is_kept_from site c a) ≡ is_kept_below site ends r (n + 1) c
-  one_more a other at = sym (any_more (λ q. not (q == r) && is_kept_by site c (slice_get ends q)) n ∙ rw (other, at) refl)
-
-  -- its own end
-  pub none_more : (n == r) ≡ true → is_kept_below site ends r n c ≡ is_kept_below site ends r (n + 1) c
-  none_more own = sym (any_more (λ q. not (q == r) && is_kept_by site c (slice_get ends q)) n ∙ rw own (or_false (is_kept_below site ends r n c)))
-
-module _ (m : Fleet) (r : ℕ) (a : CellNo) where
-  abbrev is_kept : ℕ → ClaimNo → Bool
-  is_kept q c = is_kept_by m.site c (slice_get (ends m) q)
+  abbrev is_kept_in : ℕ → ClaimNo → Bool
+  is_kept_in q c = is_kept_by m.site c (slice_get (ends m) q)
 
   abbrev by_robot : ClaimNo → ℕ → Bool
-  by_robot c q = not (q == r) && is_kept q c
+  by_robot c q = not (q == r) && is_held q c
 
   abbrev by_claim : ℕ → Bool
-  by_claim q = not (q == r) && list_any (is_kept q) (footprint_of m.site a)
+  by_claim q = not (q == r) && list_any (is_kept_in q) (footprint_of m.site a)
 
-  forth : is_shut_by m.site (ends m) r a ≡ true → is_shut_to m r a ≡ true
+  forth : is_shut_in b m.site r a ≡ true → is_shut_to m r a ≡ true
   forth h =
-      let claim = any_In (is_kept_from_other m.site (ends m) r) (footprint_of m.site a) h in
-      let robot = any_In (by_robot claim.0) (numbers_below (length (ends m))) claim.2 in
-      let parts = and_parts (not (robot.0 == r)) (is_kept robot.0 claim.0) robot.2 in
-      In_any by_claim (numbers_below (length m.starts)) (subst (λ k. In robot.0 (numbers_below k)) (length-ends m) robot.1)
-      (and_from (not (robot.0 == r)) (list_any (is_kept robot.0) (footprint_of m.site a)) parts.0 (In_any (is_kept robot.0) (footprint_of m.site a) claim.1 parts.1))
+      let claim = any_In (λ (c : ClaimNo). is_kept_from b r c.0) (footprint_of m.site a) h in
+      let robot = any_In (by_robot claim.0) (numbers_below (length b.ends)) claim.2 in
+      let parts = and_parts (not (robot.0 == r)) (is_held robot.0 claim.0) robot.2 in
+      In_any by_claim (numbers_below (length m.starts)) (subst (λ k. In robot.0 (numbers_below k)) long robot.1)
+      (and_from (not (robot.0 == r)) (list_any (is_kept_in robot.0) (footprint_of m.site a)) parts.0
+      (In_any (is_kept_in robot.0) (footprint_of m.site a) claim.1 (sym (kept_there b m.site (ends m) shows claim.0 robot.0) ∙ parts.1)))
 
-  back : is_shut_to m r a ≡ true → is_shut_by m.site (ends m) r a ≡ true
+  back : is_shut_to m r a ≡ true → is_shut_in b m.site r a ≡ true
   back h =
       let robot = any_In by_claim (numbers_below (length m.starts)) h in
-      let parts = and_parts (not (robot.0 == r)) (list_any (is_kept robot.0) (footprint_of m.site a)) robot.2 in
-      let claim = any_In (is_kept robot.0) (footprint_of m.site a) parts.1 in
-      In_any (is_kept_from_other m.site (ends m) r) (footprint_of m.site a) claim.1
-      (In_any (by_robot claim.0) (numbers_below (length (ends m))) (subst (λ k. In robot.0 (numbers_below k)) (sym (length-ends m)) robot.1)
-      (and_from (not (robot.0 == r)) (is_kept robot.0 claim.0) parts.0 claim.2))
+      let parts = and_parts (not (robot.0 == r)) (list_any (is_kept_in robot.0) (footprint_of m.site a)) robot.2 in
+      let claim = any_In (is_kept_in robot.0) (footprint_of m.site a) parts.1 in
+      In_any (λ (c : ClaimNo). is_kept_from b r c.0) (footprint_of m.site a) claim.1
+      (In_any (by_robot claim.0) (numbers_below (length b.ends)) (subst (λ k. In robot.0 (numbers_below k)) (sym long) robot.1)
+      (and_from (not (robot.0 == r)) (is_held robot.0 claim.0) parts.0 (kept_there b m.site (ends m) shows claim.0 robot.0 ∙ claim.2)))
 
-  -- what is shut by the robots' ends is shut by the plan
-  pub shut_is : is_shut_by m.site (ends m) r a ≡ is_shut_to m r a
-  shut_is = same_tests (is_shut_by m.site (ends m) r a) (is_shut_to m r a) forth back
+  -- what is shut by the ends that are kept is shut by the plan
+  pub shut_is : is_shut_in b m.site r a ≡ is_shut_to m r a
+  shut_is = same_tests (is_shut_in b m.site r a) (is_shut_to m r a) forth back

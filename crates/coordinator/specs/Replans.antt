@@ -1,16 +1,14 @@
 -- Replans, and the cells that other robots' ends shut.
-use Rattle.std.specs.Prelude.{◌≡◌, ◌<◌, ℕ, ◌⊎◌, Bool, true, false, not, ◌&&◌, ◌==◌, List, length, slice_get, Some, Result, Ok, Err}
+use Rattle.std.specs.Prelude.{◌≡◌, ◌<◌, ℕ, ◌⊎◌, Bool, true, false, List, length, Some, Result, Ok, Err}
 use Rattle.std.specs.List.{list_any}
 use Rattle.std.specs.Option.{is_some}
 use Rattle.fleet_base.specs.declared.answers.ReplanRefused.{ReplanRefused}
 use Rattle.fleet_base.specs.declared.answers.ReplanRefused.TheVariants.{UnknownRobot, NoPending, AtGoal, NoDetour, Full, NoMemory}
 use Rattle.fleet_base.specs.declared.numbers.CellNo.{CellNo}
-use Rattle.fleet_base.specs.declared.numbers.ClaimNo.{ClaimNo}
 use Rattle.fleet_base.specs.declared.numbers.Span.{Span}
-use Rattle.fleet_model.specs.Lists.{numbers_below}
 use Rattle.fleet_model.specs.Sites.{Site, footprint_of}
 use Rattle.fleet_model.specs.Plans.{end_of}
-use Rattle.fleet_model.specs.Deferral.{is_kept_by}
+use Rattle.deferral.specs.Backlogs.{Backlog, is_kept_from}
 use Rattle.fleet_model.specs.States.{State, pending_of}
 use Rattle.fleet_model.specs.Calls.{detour_of}
 
@@ -35,10 +33,6 @@ pub record IsDetour (s : State) (r : ℕ) (goal : CellNo → Bool) (route : List
   pub away : goal (end_of s.fleet r) ≡ false
   pub found : detour_of s.fleet r goal ≡ Some route
 
--- the end of a robot other than r keeps the claim
-abbrev pub is_kept_from_other : Site → List CellNo → ℕ → ClaimNo → Bool
-is_kept_from_other site ends r c = list_any (λ q. not (q == r) && is_kept_by site c (slice_get ends q)) (numbers_below (length ends))
-
 -- the cell has a claim that the end of a robot other than r keeps
-abbrev pub is_shut_by : Site → List CellNo → ℕ → CellNo → Bool
-is_shut_by site ends r a = list_any (λ c. is_kept_from_other site ends r c) (footprint_of site a)
+abbrev pub is_shut_in : Backlog → Site → ℕ → CellNo → Bool
+is_shut_in b site r a = list_any (λ c. is_kept_from b r c.0) (footprint_of site a)

@@ -91,7 +91,7 @@ impl Coordinator {
         if goal.holds(end) {
             return Err(ReplanRefused::AtGoal);
         }
-        let shut = shut_cells(&self.site, self.tables.robots.ends(), robot);
+        let shut = shut_cells(&self.site, &self.tables.deferrals, robot);
         match least_route(&self.site, end, goal, &shut, self.alloc) {
             Ok(route) => Ok(route),
             Err(RouteRefused::Unreachable) => Err(ReplanRefused::NoDetour),

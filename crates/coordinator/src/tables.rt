@@ -30,7 +30,6 @@ use fleet_base::claim_set::ClaimSet;
 use fleet_base::limits::MAX_ROBOTS;
 use fleet_base::numbers::{CellNo, Event, Kind, RobotNo, Span};
 use fleet_base::path::{NoMemory, Path};
-use merge_op::blockers::least_blocker;
 use merge_op::merging::merge;
 use robot_tables::tables::RobotTables;
 use site_map::site::Site;

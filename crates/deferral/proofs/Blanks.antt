@@ -1,5 +1,5 @@
 -- Lists that hold one value at every place.
-use Rattle.std.proofs.Common.{◌≡◌, ℕ, ◌<◌, ◌≤◌, Bool, true, false, cond, ◌&&◌, ◌==◌, inl, inr, refl, sym, ap, ◌∙◌, List, length, get_or, replicate, arith}
+use Rattle.std.proofs.Common.{◌≡◌, ℕ, ◌≤◌, Bool, true, false, cond, ◌&&◌, ◌==◌, inl, inr, refl, sym, ap, ◌∙◌, List, length, get_or, replicate, arith}
 use Rattle.std.proofs.lemmas.Bool.{cases_lt}
 use Rattle.std.proofs.lemmas.List.{get_or-replicate, get_or_past, length-replicate}
 use Rattle.std.specs.Prelude.{nat_lt}
@@ -10,7 +10,7 @@ use Rattle.bit_set.proofs.WordBits.{is_in-zero}
 use Rattle.fleet_base.specs.EdgeSets.{edge_place, leads}
 use Rattle.deferral.specs.Matrices.{count_at, IsMatrix}
 use Rattle.deferral.specs.Tallies.{is_marked, mark_count, IsTallied}
-use Rattle.deferral.proofs.Passing.{count_passing, count_passing-none}
+use Rattle.deferral.proofs.Passing.{count_passing-none}
 
 -- each place has the value, and so has none behind the end
 pub get_or-blank : {A : Type 0} (x : A) (n k : ℕ) → get_or (replicate n x) k x ≡ x

@@ -1,7 +1,6 @@
 -- A backlog that shows a state has the state's deferrals.
-use Rattle.std.proofs.Common.{◌≡◌, ℕ, zero, suc, ◌+◌, ◌<◌, ◌≤◌, Bool, true, false, cond, not, ◌&&◌, ◌==◌, inl, inr, refl, sym, ap, ◌∙◌, subst, List, [], ◌∷◌, length, Option, Some, None, unwrap_or, arith, eq-eqb}
-use Rattle.std.proofs.lemmas.Bool.{both_ways, and_parts, and_from, eqb-true, lt-ltb, cases_lt}
-use Rattle.std.proofs.lemmas.Option.{slice_get_past}
+use Rattle.std.proofs.Common.{◌≡◌, ℕ, zero, suc, ◌+◌, ◌≤◌, Bool, true, false, cond, not, ◌&&◌, ◌==◌, refl, sym, ap, ◌∙◌, subst, List, [], ◌∷◌, length, Option, Some, None, unwrap_or, arith, eq-eqb}
+use Rattle.std.proofs.lemmas.Bool.{both_ways, and_parts, and_from, eqb-true, lt-ltb}
 use Rattle.std.specs.Prelude.{nat_lt, slice_get}
 use Rattle.std.specs.List.{filter, list_any, range_with_len}
 use Rattle.std.specs.Option.{option_map}
@@ -10,7 +9,7 @@ use Rattle.fleet_base.specs.declared.numbers.CellNo.{CellNo}
 use Rattle.fleet_base.specs.declared.numbers.ClaimGroup.{ClaimGroup}
 use Rattle.fleet_base.specs.declared.numbers.ClaimNo.{ClaimNo}
 use Rattle.fleet_model.specs.Lists.{In, here, there, numbers_below}
-use Rattle.fleet_model.specs.Sites.{Site, in_conflict, exclude, footprint_of, steps, needs}
+use Rattle.fleet_model.specs.Sites.{Site, footprint_of, steps, needs}
 use Rattle.fleet_model.specs.Plans.{IsBlocker}
 use Rattle.fleet_model.specs.Cycles.{are_distinct}
 use Rattle.fleet_model.specs.Deferral.{ends, is_kept_by}

@@ -1,6 +1,6 @@
 -- The counts of the sets are those of the backlog.
-use Rattle.std.proofs.Common.{◌≡◌, ℕ, ◌+◌, ◌<◌, ◌≤◌, Bool, true, false, cond, not, ◌&&◌, ◌==◌, inl, inr, refl, sym, ap, ◌∙◌, List, [], length, get_or, arith, Option, Some, None}
-use Rattle.std.proofs.lemmas.Bool.{and_left, and_right, both_ways, cases_lt, false_from_ne_true, lt-ltb, le-ltb}
+use Rattle.std.proofs.Common.{◌≡◌, ℕ, ◌<◌, ◌≤◌, Bool, true, false, cond, ◌&&◌, ◌==◌, inl, inr, refl, sym, ap, ◌∙◌, List, [], length, arith, Option, Some, None}
+use Rattle.std.proofs.lemmas.Bool.{and_right, both_ways, cases_lt, false_from_ne_true, lt-ltb, le-ltb}
 use Rattle.std.proofs.lemmas.List.{get_or_past}
 use Rattle.std.proofs.lemmas.Option.{slice_get_past}
 use Rattle.std.specs.Prelude.{nat_lt, slice_get}

@@ -1,5 +1,5 @@
 -- The least blocker of a backlog is that of the site that it shows.
-use Rattle.std.proofs.Common.{◌≡◌, ℕ, ◌<◌, ◌≤◌, Bool, true, false, not, ◌&&◌, ◌==◌, ◌⊎◌, inl, inr, refl, sym, ap, ◌∙◌, subst, List, length, Option, Some, None, arith}
+use Rattle.std.proofs.Common.{◌≡◌, ℕ, ◌<◌, ◌≤◌, Bool, true, false, not, ◌&&◌, ◌==◌, ◌⊎◌, inl, inr, refl, sym, ap, ◌∙◌, List, length, Option, Some, None, arith}
 use Rattle.std.proofs.lemmas.Bool.{both_ways, and_from, and_parts}
 use Rattle.std.proofs.lemmas.Option.{slice_get_within}
 use Rattle.std.specs.Prelude.{slice_get}
@@ -21,14 +21,14 @@ use Rattle.deferral.specs.Backlogs.{Backlog, blocks, end_claims, is_kept, IsLeas
 use Rattle.deferral.specs.Laws.{ShowsEnds}
 use Rattle.deferral.proofs.FleetStates.{kept_end}
 
-module _ (b : Backlog) (site : Site) (cells : List CellNo) (r : ℕ) (needs : FinSet nat_cmp) (claims : List ClaimNo) (shows : ShowsEnds b site cells) (set : IsSetOf needs claims) where
-  -- what an end keeps
-  kept_there : (c : ClaimNo) (q : ℕ) → is_kept b.groups (end_claims b q) c.0 ≡ is_kept_by site c (slice_get cells q)
-  kept_there c q =
-      ap (λ g. is_kept g (end_claims b q) c.0) shows.groups
-      ∙ ap (λ e. is_kept site.groups e c.0) (shows.ends q)
-      ∙ kept_end site (slice_get cells q) c
+-- what an end keeps
+pub kept_there : (b : Backlog) (site : Site) (cells : List CellNo) → ShowsEnds b site cells → (c : ClaimNo) (q : ℕ) → is_kept b.groups (end_claims b q) c.0 ≡ is_kept_by site c (slice_get cells q)
+kept_there b site cells shows c q =
+    ap (λ g. is_kept g (end_claims b q) c.0) shows.groups
+    ∙ ap (λ e. is_kept site.groups e c.0) (shows.ends q)
+    ∙ kept_end site (slice_get cells q) c
 
+module _ (b : Backlog) (site : Site) (cells : List CellNo) (r : ℕ) (needs : FinSet nat_cmp) (claims : List ClaimNo) (shows : ShowsEnds b site cells) (set : IsSetOf needs claims) where
   abbrev listed : ClaimNo × ℕ → Bool
   listed p = not (p.1 == r) && is_kept_by site p.0 (slice_get cells p.1)
 
@@ -45,7 +45,7 @@ module _ (b : Backlog) (site : Site) (cells : List CellNo) (r : ℕ) (needs : Fi
   in_list c q t =
       let p = and_parts (contains needs c.0) (not (q == r) && is_kept b.groups (end_claims b q) c.0) t in
       let a = and_parts (not (q == r)) (is_kept b.groups (end_claims b q) c.0) p.1 in
-      let kept : is_kept_by site c (slice_get cells q) ≡ true = sym (kept_there c q) ∙ a.1 in
+      let kept : is_kept_by site c (slice_get cells q) ≡ true = sym (kept_there b site cells shows c q) ∙ a.1 in
       In-filter listed (pairs claims (numbers_below (length cells)))
       (In_pairs claims (numbers_below (length cells)) (has_In claims c (sym (set c) ∙ p.0)) (In_below (length cells) q (kept_within c q kept)))
       (and_from (not (q == r)) (is_kept_by site c (slice_get cells q)) a.0 kept)
@@ -56,7 +56,7 @@ module _ (b : Backlog) (site : Site) (cells : List CellNo) (r : ℕ) (needs : Fi
       let a = and_parts (not (p.1 == r)) (is_kept_by site p.0 (slice_get cells p.1)) u.1 in
       and_from (contains needs p.0.0) (not (p.1 == r) && is_kept b.groups (end_claims b p.1) p.0.0)
       (set p.0 ∙ In_has claims p.0 (pairs_In claims (numbers_below (length cells)) u.0).0)
-      (and_from (not (p.1 == r)) (is_kept b.groups (end_claims b p.1) p.0.0) a.0 (kept_there p.0 p.1 ∙ a.1))
+      (and_from (not (p.1 == r)) (is_kept b.groups (end_claims b p.1) p.0.0) a.0 (kept_there b site cells shows p.0 p.1 ∙ a.1))
 
   -- no blocker
   none_least : ((c q : ℕ) → blocks b r needs c q ≡ false) → (o : Option (ClaimNo × ℕ)) → least_blocker site cells r claims ≡ o → None ≡ o

@@ -1,11 +1,11 @@
 -- The counts follow the sets, as a robot is put into one or taken out.
-use Rattle.std.proofs.Common.{◌≡◌, ℕ, ◌+◌, ◌^◌, ◌<◌, ◌≤◌, Bool, true, false, cond, not, ◌&&◌, ◌||◌, ◌==◌, inl, inr, refl, sym, ap, ◌∙◌, List, length, set, get_or, arith, eq-eqb, length-set, get_or-set_same, get_or-set_other}
+use Rattle.std.proofs.Common.{◌≡◌, ℕ, ◌+◌, ◌^◌, ◌<◌, Bool, true, false, cond, not, ◌&&◌, ◌||◌, ◌==◌, inl, inr, refl, sym, ap, ◌∙◌, List, length, set, get_or, arith, eq-eqb, length-set, get_or-set_same, get_or-set_other}
 use Rattle.std.proofs.lemmas.Bool.{and_right, both_ways, cases_eq, cases_lt, ne_eqb}
 use Rattle.std.proofs.lemmas.List.{get_or_default}
 use Rattle.bit_set.specs.Words.{is_in}
 use Rattle.bit_set.proofs.WordBits.{is_in-past}
 use Rattle.deferral.specs.Matrices.{count_at, one_if}
-use Rattle.deferral.specs.Tallies.{Marks, is_marked, mark_count, IsRemarked, IsTallied}
+use Rattle.deferral.specs.Tallies.{is_marked, mark_count, IsRemarked, IsTallied}
 use Rattle.deferral.proofs.Tallying.{IsOneMore, mark_count-upto, more_kept, more_needed, one_out, one_put}
 
 or-cond : (t b : Bool) → (t || b) ≡ cond t true b

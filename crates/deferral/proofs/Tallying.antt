@@ -1,6 +1,6 @@
 -- What one robot more in the set of a claim does to the counts.
-use Rattle.std.proofs.Common.{◌≡◌, ℕ, ◌+◌, ◌<◌, ◌≤◌, Bool, true, false, cond, not, ◌&&◌, ◌==◌, ◌⊎◌, inl, inr, refl, sym, ap, ◌∙◌, List, length, arith, eq-eqb}
-use Rattle.std.proofs.lemmas.Bool.{and_parts, and_left, and_right, cases_eq, eqb-true, ne_eqb}
+use Rattle.std.proofs.Common.{◌≡◌, ℕ, ◌+◌, ◌<◌, ◌≤◌, Bool, true, false, cond, not, ◌&&◌, ◌==◌, inl, inr, refl, sym, ap, ◌∙◌, List, length, arith, eq-eqb}
+use Rattle.std.proofs.lemmas.Bool.{and_parts, and_right, cases_eq, eqb-true, ne_eqb}
 use Rattle.deferral.specs.Matrices.{one_if}
 use Rattle.deferral.specs.Tallies.{Marks, is_marked, mark_count, IsRemarked}
 use Rattle.deferral.proofs.Passing.{count_passing, count_passing-but_one, count_passing-upto}

@@ -56,6 +56,10 @@ blocker_count b r q = if q == r then 0 else length (kept_claims b.groups (pendin
 abbrev pub is_deferred_on : Backlog → ℕ → ℕ → Bool
 is_deferred_on b r q = nat_lt 0 (blocker_count b r q)
 
+-- the end of a robot other than r keeps the claim of this number
+abbrev pub is_kept_from : Backlog → ℕ → ℕ → Bool
+is_kept_from b r c = list_any (λ q. not (q == r) && is_kept b.groups (end_claims b q) c) (numbers_below (length b.ends))
+
 -- the claim of this number is one of these, and the end of another robot keeps it from robot r
 abbrev pub blocks : Backlog → ℕ → set.FinSet nat_cmp → ℕ → ℕ → Bool
 blocks b r needs c q = set.contains needs c && (not (q == r) && is_kept b.groups (end_claims b q) c)

@@ -3,7 +3,7 @@
 ghost use Rattle.std.specs.Prelude.{◌≡◌, ℕ, ◌<◌, ◌≤◌, [], None, Some, length, replicate, slice_set, IfOk};
 ghost use Rattle.std.specs.Option.{option_map};
 ghost use Rattle.fleet_base.specs.EdgeSets.{leads};
-ghost use Rattle.deferral.specs.Backlogs.{blocker_count, is_deferred_on, route_of, end_claims, pending_of, IsLeastBlocker};
+ghost use Rattle.deferral.specs.Backlogs.{blocker_count, is_deferred_on, is_kept_from, route_of, end_claims, pending_of, IsLeastBlocker};
 
 use crate::ends::End;
 use crate::keeping::{free_all, keep_all};
@@ -142,6 +142,14 @@ impl Deferrals {
         ensures { result ≡ blocker_count self.now from.0 to.0 }
     {
         self.tally.count(from, to)
+    }
+
+    /// Whether the end of a robot other than this one keeps the claim.
+    pub fn is_kept_from(&self, robot: RobotNo, claim: ClaimNo) -> bool
+        requires { robot.0 < length self.now.pending }
+        ensures { result ≡ is_kept_from self.now robot.0 claim.0 }
+    {
+        self.tally.keeper(claim, robot).is_some()
     }
 
     /// The blocker of a route of the robot that needs these claims: the one of least claim, and of

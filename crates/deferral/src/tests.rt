@@ -84,6 +84,8 @@ fn counts_follow_ends(rt: HostRuntime) -> Result<(), Fail> {
         by: RobotNo(1),
     };
     assert_eq!(rt; deferrals.blocker(RobotNo(0), &two_claims()), Some(blocker));
+    assert!(rt; deferrals.is_kept_from(RobotNo(0), ClaimNo(1)));
+    assert!(rt; !deferrals.is_kept_from(RobotNo(1), ClaimNo(1)));
     let mut second = Claims::new(alloc);
     second.put(ClaimNo(2));
     tell(&mut deferrals, &both, &second);

@@ -1,5 +1,5 @@
 -- The elements of lists by their places.
-use Rattle.std.proofs.Common.{◌≡◌, ℕ, zero, suc, ◌+◌, ◌-◌, ◌<◌, ◌≤◌, refl, sym, ap, ◌∙◌, List, [], ◌∷◌, ◌++◌, length, drop, replicate, arith, Some}
+use Rattle.std.proofs.Common.{◌≡◌, ℕ, zero, suc, ◌+◌, ◌-◌, ◌<◌, ◌≤◌, refl, sym, ap, ◌∙◌, List, [], ◌∷◌, ◌++◌, length, drop, arith, Some}
 use Rattle.std.specs.Prelude.{slice_get}
 use Rattle.fleet_model.specs.Lists.{In, here, there}
 
@@ -27,9 +27,3 @@ module _ {A : Type 0} where
   get-drop xs zero i = ap (slice_get xs) (omega arith)
   get-drop [] (suc n) i = refl
   get-drop (x ∷ xs) (suc n) i = get-drop xs n i ∙ ap (slice_get (x ∷ xs)) (let e : suc (n + i) ≡ suc n + i = omega arith in e)
-
-  -- the copies of an element are that element, and some are there where one is
-  pub In_replicate : (n : ℕ) (x y : A) → In y (replicate n x) → (y ≡ x) × (0 < n)
-  In_replicate zero x y m = elim m [ ]
-  In_replicate (suc n) x y (here e) = (e, omega arith)
-  In_replicate (suc n) x y (there m) = ((In_replicate n x y m).0, omega arith)

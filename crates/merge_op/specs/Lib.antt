@@ -1,3 +1,2 @@
-pub mod Blocked
 pub mod Rests
 pub mod Plan

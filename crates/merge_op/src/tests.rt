@@ -1,19 +1,14 @@
-//! Blockers at a crossing with flows, and what robots on a row of cells may take back.
+//! What robots on a row of cells may take back.
 
-ghost use Rattle.std.specs.Prelude.{◌≡◌, ℕ, ◌<◌, ◌≤◌, ◌++◌, true, [], All, IfOk, OnOk};
-ghost use Rattle.std.specs.FinSet as set;
-ghost use Rattle.fleet_base.specs.declared.limits.TheConstants.{MAX_CLAIMS};
+ghost use Rattle.std.specs.Prelude.{◌≡◌, ◌++◌, IfOk, OnOk};
 ghost use Rattle.fleet_model.specs.Plans.{numbered};
-ghost use Rattle.site_map.specs.Claims.{claim_total, site_of};
+ghost use Rattle.site_map.specs.Claims.{site_of};
 ghost use Rattle.event_graph.specs.Example.{behind, example_groups, over};
 ghost use Rattle.merge_op.specs.Plan.{IsPlan};
 
-use crate::blockers::least_blocker;
 use crate::merging::merge;
 use crate::withdrawal::removable;
 use event_graph::graph::EventGraph;
-use fleet_base::answers::Blocker;
-use fleet_base::claim_set::ClaimSet;
 use fleet_base::numbers::{CellNo, ClaimGroup, ClaimNo, EventNo, Kind, RobotNo, Span};
 use fleet_base::path::NoMemory;
 use site_map::builder::SiteBuilder;
@@ -23,54 +18,13 @@ use std::alloc::Global;
 use std::process::Abort;
 use std::test::Fail;
 
-// Five cells, of which so many from the second on are a crossing. The third is a flow of its own.
-fn yard(alloc: Global, crossed: bool) -> Result<Site, BuildRefused> {
+// Five cells.
+fn row(alloc: Global) -> Result<Site, BuildRefused> {
     let mut builder = SiteBuilder::new(alloc);
     for _ in 0..5u32 {
         builder.cell()?;
     }
-    if crossed {
-        builder.crossing(&[CellNo(1), CellNo(2), CellNo(3)])?;
-        builder.flow(0, &[CellNo(2)])?;
-    }
     Ok(builder.finish())
-}
-
-// The set of these claims.
-fn set_of(site: &Site, claims: &[ClaimNo]) -> ClaimSet
-    requires limit { claim_total site.now ≤ MAX_CLAIMS }
-    requires known { All (λ c. c.0 < claim_total site.now) claims.now }
-    ensures { (n : ℕ) → set.contains result n ≡ true → n < claim_total site.now }
-{
-    let mut needs = ClaimSet::new();
-    for claim in claims {
-        needs.put(*claim);
-    }
-    needs
-}
-
-#[test]
-fn least_blocker_is_named(rt: HostRuntime) -> Result<(), Fail> {
-    let site = yard(rt.alloc(), true)?;
-    assert!(rt; site.cell_count() == 5 && site.claim_count() == 7);
-    let robot = RobotNo(1);
-    let needs = set_of(&site, &[ClaimNo(4), ClaimNo(6)]);
-    let named = |claim, by| {
-        Some(Blocker {
-            claim: ClaimNo(claim),
-            by: RobotNo(by),
-        })
-    };
-    let free = [CellNo(0), CellNo(4), CellNo(3)];
-    assert_eq!(rt; least_blocker(&site, &free, robot, &needs), None);
-    let other_flow = [CellNo(2), CellNo(4), CellNo(2)];
-    assert_eq!(rt;
-        least_blocker(&site, &other_flow, robot, &needs),
-        named(6, 0)
-    );
-    let both = [CellNo(2), CellNo(1), CellNo(4)];
-    assert_eq!(rt; least_blocker(&site, &both, robot, &needs), named(4, 2));
-    Ok(())
 }
 
 // Five claims, each alone in its group.
@@ -131,7 +85,7 @@ fn merge_behind(graph: &mut EventGraph) -> Result<Span, NoMemory>
 
 #[test]
 fn what_another_waits_for_stays(rt: HostRuntime) -> Result<(), Fail> {
-    let site = yard(rt.alloc(), false)?;
+    let site = row(rt.alloc())?;
     check_groups(&rt, &site);
     let mut graph = plan_over(rt.alloc())?;
     assert_eq!(rt; removable(&site, &graph, RobotNo(0)), 6);
@@ -145,7 +99,7 @@ fn what_another_waits_for_stays(rt: HostRuntime) -> Result<(), Fail> {
 
 #[test]
 fn begun_step_stays(rt: HostRuntime) -> Result<(), Fail> {
-    let site = yard(rt.alloc(), false)?;
+    let site = row(rt.alloc())?;
     check_groups(&rt, &site);
     let mut graph = plan_over(rt.alloc())?;
     graph.finish(EventNo(1));

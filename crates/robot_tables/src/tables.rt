@@ -68,13 +68,6 @@ impl RobotTables {
         self.ends.len() as u32
     }
 
-    /// The cells that the robots end in by the plan, in order of robot.
-    pub fn ends(&self) -> &[CellNo]
-        ensures { result.now ≡ self.now.ends }
-    {
-        &self.ends
-    }
-
     /// The cell that the robot ends in by the plan.
     pub fn end(&self, robot: RobotNo) -> CellNo
         requires { robot.0 < length self.now.ends }

@@ -49,7 +49,8 @@ fn robot_drives_on(rt: HostRuntime) -> Result<(), Fail> {
     let (first, second) = (RobotNo(0), RobotNo(1));
     check_spot(&rt, &robots, first, 0, &[ClaimNo(0)]);
     robots.set_end(first, CellNo(1));
-    assert_eq!(rt; robots.ends(), [CellNo(1), CellNo(2)].as_slice());
+    assert_eq!(rt; robots.end(first), CellNo(1));
+    assert_eq!(rt; robots.end(second), CellNo(2));
     acquire(&rt, &mut robots, first, ClaimNo(3));
     acquire(&rt, &mut robots, first, ClaimNo(1));
     robots.report(first, Kind::Move(CellNo(0), CellNo(1)));

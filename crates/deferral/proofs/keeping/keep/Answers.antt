@@ -1,5 +1,4 @@
-use Rattle.std.proofs.Common.{◌≡◌, ◌∙◌, ◌+◌, ◌==◌, ◌&&◌, Bool, List, ℕ, ap, length, sym, refl, subst, true, false, not, arith}
-use Rattle.std.specs.Prelude.{nat_lt}
+use Rattle.std.proofs.Common.{◌∙◌, ◌+◌, ap, sym, refl, subst, true, arith}
 use Rattle.deferral.specs.Tallies.{Marks, IsRemarked}
 use Rattle.deferral.proofs.Remarks.{near, near_all, near_already, near_first, near_known, near_more, near_none, near_other}
 use Rattle.deferral.proofs.keeping.keep.Goals as goal

@@ -1,5 +1,4 @@
-use Rattle.std.proofs.Common.{arith}
-use Rattle.deferral.proofs.Blanks.{is_marked-blank, tally-blank}
+use Rattle.deferral.proofs.Blanks.{tally-blank}
 use Rattle.deferral.proofs.tally.Tally.new.Goals as goal
 
 pub invariant_of-result : goal.invariant_of-result
