@@ -1,4 +1,1 @@
-pub mod Causes
-pub mod FormFaults
-pub mod Inputs
-pub mod Scripts
+mod Words

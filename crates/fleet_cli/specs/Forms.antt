@@ -3,6 +3,11 @@ use denote.Ref.{Bor}
 use Rattle.std.specs.Prelude.{ℕ, if◌then◌else◌, List, [], ◌∷◌, map, codes, Some, None}
 use Rattle.std.specs.declared.option.Option.{Option}
 use Rattle.std.specs.Str.{bytes_eq}
+use Rattle.form_base.specs.Forms.{FormSpec}
+use Rattle.fleet_check.specs.Check.{check_form}
+use Rattle.fleet_replay.specs.Form.{replay_form}
+use Rattle.fleet_route.specs.Form.{route_form}
+use Rattle.fleet_script.specs.Form.{script_form}
 use Rattle.fleet_cli.specs.declared.form.Form as declared
 use Rattle.fleet_cli.specs.declared.form.Form.TheVariants as variants
 
@@ -46,9 +51,9 @@ form_asked words = form_of (map (λ word. word.now) words)
 abbrev pub usage_text : List ℕ
 usage_text = codes "usage: fleet check | route FROM TO | script | replay\n"
 
--- the most bytes of input that a form takes; None where it reads nothing
-abbrev pub limit_of : Form → Option ℕ
-limit_of Check = Some 4194304
-limit_of (Route from to) = Some 4194304
-limit_of Script = Some 4194304
-limit_of Replay = Some 67108864
+-- what each form is
+abbrev pub spec_of : Form → FormSpec
+spec_of Check = check_form
+spec_of (Route from to) = route_form from to
+spec_of Script = script_form
+spec_of Replay = replay_form

@@ -1,9 +1,2 @@
-pub mod Check
 pub mod Forms
-pub mod Outputs
-pub mod Refusals
-pub mod Replay
-pub mod Route
 pub mod Runs
-pub mod Script
-pub mod Stops

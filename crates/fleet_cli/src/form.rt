@@ -1,7 +1,7 @@
 // The forms of the program: lists of words.
 ghost use Rattle.std.specs.Prelude.{◌≡◌, ◌^◌, ◌-◌, ◌<◌, IfSome};
 ghost use Rattle.std.specs.Option.{option_map};
-ghost use Rattle.fleet_cli.specs.Forms.{form_asked, form_view, limit_of, one_word, three_words};
+ghost use Rattle.fleet_cli.specs.Forms.{form_asked, form_view, one_word, spec_of, three_words};
 
 // What the words ask for.
 #[derive(Clone, Copy, Debug, PartialEq, Eq)]
@@ -50,7 +50,7 @@ fn from_three<'a>(word: &str, from: &'a str, to: &'a str) -> Option<Form<'a>>
 impl Form<'_> {
     // The most bytes of input that the form takes. None where it reads nothing.
     pub(crate) fn limit(self) -> Option<u64>
-        ensures is { result ≡ limit_of (form_view self.entry) }
+        ensures is { result ≡ (spec_of (form_view self.entry)).limit }
         ensures small { IfSome result (λ limit. limit < 2 ^ 32 - 1) }
     {
         match self {

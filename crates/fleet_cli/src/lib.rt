@@ -5,18 +5,12 @@
 //! text in memory and writes it.
 #![tactic(auto)]
 
-mod asked;
-mod check;
-mod commanded;
-mod fault;
 mod form;
 mod output;
-mod replayed;
 mod reply;
 #[cfg(test)]
 mod tests;
 mod top;
 
-pub use fault::Fault;
-pub use output::Ended;
+pub use form_base::{Ended, Fault};
 pub use top::fleet;

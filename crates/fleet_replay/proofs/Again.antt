@@ -15,8 +15,10 @@ use Rattle.fleet_model.proofs.Counts.{journal_counts}
 use Rattle.fleet_model.proofs.GoodStates.{journal_good}
 use Rattle.fleet_model.proofs.Marks.{last_mark}
 use Rattle.fleet_names.specs.Names.{Named}
-use Rattle.fleet_script.specs.Script.{opening_of}
-use Rattle.fleet_script.proofs.Runs.{opens}
+use Rattle.run_base.specs.Openings.{is_one_segment, opening_of, reached_text}
+use Rattle.run_base.proofs.BegunFronts.{IsBegun, front_begun}
+use Rattle.run_base.proofs.Runs.{opens}
+use Rattle.run_base.proofs.Sites.{cells_are}
 use Rattle.fleet_texts.specs.Texts.{journal_text}
 use Rattle.journal_replay.proofs.Differing.{legal_none}
 use Rattle.plan_journal.specs.Reading.{Front, journal_of}
@@ -24,12 +26,10 @@ use Rattle.plan_journal.proofs.Again.{journal_again}
 use Rattle.scenario.specs.Scenarios.{ScenarioValue}
 use Rattle.scenario_reader.specs.Tables.{mapped}
 use Rattle.fleet_replay.specs.Printed.{IsPrintedRun}
-use Rattle.fleet_replay.specs.Replay.{ReplayValue, is_one_segment, numbered_on, printed_or, reached_text, replay_of, replay_text, replay_value, unless_differs, with_header, with_journal, with_tail}
+use Rattle.fleet_replay.specs.Replay.{ReplayValue, numbered_on, printed_or, replay_of, replay_text, replay_value, unless_differs, with_header, with_journal, with_tail}
 use Rattle.fleet_replay.specs.Tails.{is_tail}
 use Rattle.fleet_replay.specs.declared.refused.ReplayFault.{ReplayFault}
-use Rattle.fleet_replay.proofs.Fronts.{IsBegun, front_begun}
 use Rattle.fleet_replay.proofs.Printables.{IsNamed, legal_printable}
-use Rattle.fleet_replay.proofs.Sites.{cells_are}
 
 -- a state that a scenario opens with has names for its robots and cells
 opening_named : (scenario : ScenarioValue) → IsBegun scenario → IsNamed scenario.names (opening_of scenario)

@@ -1,13 +1,9 @@
 pub mod Again
-pub mod CommandCounts
-pub mod EarlySegments
-pub mod Fronts
+mod Faults
 pub mod Journals
 pub mod Lines
 pub mod Printables
 pub mod Runs
-pub mod ScriptSegments
 pub mod ShortLines
-pub mod Sites
 pub mod Stops
 pub mod Told

@@ -8,10 +8,8 @@ use Rattle.fleet_base.specs.declared.numbers.CellNo.{CellNo}
 use Rattle.coordinator.specs.Books.{Book, opening_of as book_opening, start_book, state_of, with_entries}
 use Rattle.fleet_model.specs.Good.{IsGood}
 use Rattle.fleet_model.specs.Journals.{IsJournal, state_after}
-use Rattle.fleet_model.specs.Replays.{IsLegal, opening as replayed}
 use Rattle.fleet_model.specs.Sites.{IsSite}
 use Rattle.fleet_model.specs.States.{State, start_state}
-use Rattle.fleet_model.proofs.Soundness.{journal_sound}
 use Rattle.fleet_names.specs.Names.{Named}
 use Rattle.fleet_texts.specs.StateTexts.{state_text}
 use Rattle.journal_replay.specs.Differing.{DiffersAt}
@@ -28,9 +26,10 @@ use Rattle.plan_journal.specs.declared.reading.ReadJournalRefused.TheVariants.{B
 use Rattle.scenario.specs.Scenarios.{ScenarioValue}
 use Rattle.site_map.specs.Built.{BuiltSite}
 use Rattle.site_map.specs.Claims.{site_of}
-use Rattle.fleet_script.specs.Script.{opening_of}
-use Rattle.fleet_replay.specs.Replay.{reached_text, unless_differs}
-use Rattle.fleet_replay.specs.Sound.{IsSoundRun}
+use Rattle.run_base.specs.Openings.{opening_of, reached_text}
+use Rattle.run_base.specs.Sound.{IsSoundRun}
+use Rattle.run_base.proofs.Runs.{sound_run as run_sound}
+use Rattle.fleet_replay.specs.Replay.{unless_differs}
 use Rattle.fleet_replay.specs.declared.refused.ReplayFault.{ReplayFault}
 use Rattle.fleet_replay.specs.Stops.{Fails, of_entries, of_journal, run_of}
 
@@ -41,18 +40,9 @@ book_of scenario entries = record (start_book scenario.site scenario.starts MAX_
 module _ (scenario : ScenarioValue) (entries : List Entry) (book : Book) (is : book ≡ book_of scenario entries) where
   -- its journal is sound
   pub sound_run : IsSite (site_of book.site) → IsGood (book_opening book) → IsJournal (book_opening book) book.journal → IsSoundRun scenario entries
-  sound_run is_site opens legal = of_parts (subst (λ (b : Book). IsSite (site_of b.site)) is is_site) (subst (λ (b : Book). IsGood (book_opening b)) is opens) (subst (λ (b : Book). IsJournal (book_opening b) b.journal) is legal)
-    where
-      of_parts : IsSite (site_of scenario.site) → IsGood (opening_of scenario) → IsJournal (opening_of scenario) entries → IsSoundRun scenario entries
-      of_parts site good journal =
-          let sound = journal_sound (opening_of scenario) site good entries journal in
-          let here = sound.states entries [] (sym (append-nil entries)) in
-          let reached = state_after (opening_of scenario) entries in
-          record {
-            legal = journal;
-            sound = sound;
-            reported = subst (λ es. IsLegal reached.fleet.site (replayed reached.fleet.site reached.fleet.starts) es) (append-nil reached.fleet.finished) (here.safe [] tt);
-          }
+  sound_run is_site opens legal =
+      run_sound scenario entries (subst (λ (b : Book). IsSite (site_of b.site)) is is_site) (subst (λ (b : Book). IsGood (book_opening b)) is opens)
+      (subst (λ (b : Book). IsJournal (book_opening b) b.journal) is legal)
 
   -- and its state's text is the one that is reached
   pub text_reached : {text : List ℕ} → text ≡ state_text scenario.names book.site (state_of book) → text ≡ reached_text scenario entries

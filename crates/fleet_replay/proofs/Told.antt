@@ -10,7 +10,7 @@ use Rattle.fleet_model.specs.Journals.{IsJournal}
 use Rattle.fleet_model.specs.Segments.{marks}
 use Rattle.fleet_model.specs.Sites.{IsSite}
 use Rattle.fleet_model.specs.States.{State, start_state}
-use Rattle.fleet_script.specs.Script.{opening_of}
+use Rattle.run_base.specs.Openings.{is_one_segment, opening_of, reached_text}
 use Rattle.fleet_texts.specs.StateTexts.{state_text}
 use Rattle.journal_replay.specs.Differing.{first_differing}
 use Rattle.plan_journal.specs.Reading.{Front, journal_of}
@@ -20,7 +20,7 @@ use Rattle.scenario_reader.specs.Tables.{mapped}
 use Rattle.site_lines.specs.declared.fault.At.{At}
 use Rattle.site_lines.specs.declared.fault.Code.TheVariants.{T1, T2}
 use Rattle.site_map.specs.Claims.{site_of}
-use Rattle.fleet_replay.specs.Replay.{ReplayValue, is_one_segment, numbered_on, printed_or, reached_text, replay_of, replay_text, replay_value, state_or, unless_differs, with_header, with_journal, with_tail}
+use Rattle.fleet_replay.specs.Replay.{ReplayValue, numbered_on, printed_or, replay_of, replay_text, replay_value, state_or, unless_differs, with_header, with_journal, with_tail}
 use Rattle.fleet_replay.specs.Sound.{ReplaysSoundly}
 use Rattle.fleet_replay.specs.Stops.{Fails, run_of, run_value}
 use Rattle.fleet_replay.specs.Tails.{differing_line, is_tail}

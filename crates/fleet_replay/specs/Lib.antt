@@ -1,3 +1,4 @@
+pub mod Form
 pub mod Printed
 pub mod Replay
 pub mod Sound

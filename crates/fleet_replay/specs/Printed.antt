@@ -2,10 +2,9 @@
 use Rattle.std.specs.Prelude.{◌≡◌, ◌⊎◌, ℕ, true, List, [], ◌++◌, drop, Ok}
 use Rattle.fleet_base.specs.declared.entries.Entry.{Entry}
 use Rattle.fleet_model.specs.Journals.{IsJournal}
-use Rattle.fleet_script.specs.Script.{opening_of}
+use Rattle.run_base.specs.Openings.{is_one_segment, opening_of, reached_text}
 use Rattle.fleet_texts.specs.Texts.{journal_text}
 use Rattle.scenario_reader.specs.Reading.{FrontValue, front_of}
-use Rattle.fleet_replay.specs.Replay.{is_one_segment, reached_text}
 
 -- behind a scenario stand the text of a legal journal that is one segment, and the text of the state that it reaches, or nothing more
 pub record IsPrintedRun (input : List ℕ) : Type 0 where

@@ -1,11 +1,7 @@
 -- Replays: a scenario with a journal behind it and what follows, and what is printed of them.
-use Rattle.std.specs.Prelude.{ℕ, ◌+◌, ◌==◌, if◌then◌else◌, Bool, List, length, drop, Option, Some, None, Result, Ok, Err}
+use Rattle.std.specs.Prelude.{ℕ, ◌+◌, if◌then◌else◌, List, drop, Option, Some, None, Result, Ok, Err}
 use Rattle.fleet_base.specs.declared.entries.Entry.{Entry}
-use Rattle.fleet_model.specs.Journals.{state_after}
-use Rattle.fleet_model.specs.Segments.{marks}
-use Rattle.fleet_model.specs.States.{State}
-use Rattle.fleet_script.specs.Script.{opening_of}
-use Rattle.fleet_texts.specs.StateTexts.{state_text}
+use Rattle.run_base.specs.Openings.{is_one_segment, opening_of, reached_text}
 use Rattle.journal_replay.specs.Differing.{first_differing}
 use Rattle.plan_journal.specs.Reading.{Front, journal_of}
 use Rattle.scenario.specs.Scenarios.{ScenarioValue}
@@ -42,10 +38,6 @@ with_journal text (Err at) = Err at
 abbrev pub replay_of : List ℕ → Result ReplayValue At
 replay_of text = with_journal text (front_of text)
 
--- the text of the state that entries reach
-abbrev pub reached_text : ScenarioValue → List Entry → List ℕ
-reached_text scenario entries = state_text scenario.names scenario.site (state_after (opening_of scenario) entries)
-
 -- a value, or the first entry that differs
 abbrev pub unless_differs : {A : Type 0} → Option ℕ → A → Result A ReplayFault
 unless_differs None value = Ok value
@@ -54,10 +46,6 @@ unless_differs (Some entry) value = Err (EntryFault entry)
 -- the text of the state that entries reach, or the first that differs
 abbrev pub state_or : ScenarioValue → List Entry → Result (List ℕ) ReplayFault
 state_or scenario entries = unless_differs (first_differing (opening_of scenario) entries) (reached_text scenario entries)
-
--- the entries open no segment beside the first
-abbrev pub is_one_segment : State → List Entry → Bool
-is_one_segment s entries = length (marks s entries) == 1
 
 -- the text of the state, where the journal is one segment; else its first line isn't the one that it would be printed with
 abbrev pub with_header : ReplayValue → Result (List ℕ) ReplayFault → Result (List ℕ) ReplayFault

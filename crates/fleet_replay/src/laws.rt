@@ -2,19 +2,12 @@
 //!
 //! A law is the contract of a function with an empty body.
 
-ghost use Rattle.std.specs.Prelude.{◌≡◌, ◌≤◌, ℕ, true, List, length, Ok};
-ghost use Rattle.fleet_model.specs.Calls.{entries_of};
-ghost use Rattle.fleet_script.specs.Script.{ScriptValue, calls_of, opening_of, script_of};
+ghost use Rattle.std.specs.Prelude.{◌≡◌, ℕ, List, Ok};
+ghost use Rattle.run_base.specs.Openings.{reached_text};
 ghost use Rattle.fleet_replay.specs.Printed.{IsPrintedRun};
-ghost use Rattle.fleet_replay.specs.Replay.{is_one_segment, reached_text, replay_text};
+ghost use Rattle.fleet_replay.specs.Replay.{replay_text};
 
 /// A printed run behind its scenario is taken whole: its state is what is printed.
 pub fn printed_run_is_taken()
     ensures { (input : List ℕ) (run : IsPrintedRun input) → replay_text input ≡ Ok (reached_text run.front.scenario run.entries) }
-{}
-
-/// The journal of a script of at most 4,194,304 bytes is one segment.
-pub fn scripts_are_one_segment()
-    ensures { (input : List ℕ) (script : ScriptValue) → length input ≤ 4194304 → script_of input ≡ Ok script
-        → is_one_segment (opening_of script.scenario) (entries_of (opening_of script.scenario) (calls_of script)) ≡ true }
 {}

@@ -5,6 +5,7 @@
 //! the state that they reach, and prints that state.
 #![tactic(auto)]
 
+pub mod form;
 mod header;
 mod journal;
 pub mod laws;

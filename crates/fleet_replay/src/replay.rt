@@ -1,9 +1,12 @@
 //! A journal behind its scenario, replayed.
 
-ghost use Rattle.std.specs.Prelude.{◌≡◌, ◌^◌, ◌-◌, ◌<◌, IfOk, Ok, length};
+ghost use Rattle.std.specs.Prelude.{◌≡◌, ◌^◌, ◌-◌, ◌<◌, Err, IfOk, Ok, length};
+ghost use Rattle.fleet_replay.specs.Form.{IsReplayFault, fault_of};
 ghost use Rattle.fleet_replay.specs.Replay.{ReplayValue, replay_of, replay_text};
 ghost use Rattle.fleet_replay.specs.Sound.{ReplaysSoundly};
 ghost use Rattle.fleet_replay.specs.Stops.{Gives};
+ghost use Rattle.fleet_replay.specs.declared.refused.ReplayFault.{ReplayFault};
+ghost use Rattle.fleet_replay.specs.declared.refused.TextRefused.TheVariants.{Fault};
 
 use crate::header::check_header;
 use crate::journal::{Run, replay_behind};
@@ -25,8 +28,19 @@ pub fn replay_text(alloc: Global, input: &[u8]) -> Result<Vec<u8>, TextRefused>
     requires { length input.now < 2 ^ 32 - 1 }
     // The text is the state's, or the refusal names the fault; or memory ran out.
     ensures is { Gives (λ text. text.items) result (replay_text input.now) }
+    // A fault that is named is in the text.
+    ensures causes { (fault : ReplayFault) → result ≡ Err (Fault fault) → IsReplayFault input.now (fault_of fault) }
     // The journal that is taken is legal and sound, and the state that is printed is the one that it
     // reaches.
+    ensures sound { IfOk result (λ text. (replay : ReplayValue) → replay_of input.now ≡ Ok replay → ReplaysSoundly replay text.items) }
+{
+    replayed(alloc, input)
+}
+
+// The same, by the clauses of which `causes` is a consequence.
+fn replayed(alloc: Global, input: &[u8]) -> Result<Vec<u8>, TextRefused>
+    requires { length input.now < 2 ^ 32 - 1 }
+    ensures is { Gives (λ text. text.items) result (replay_text input.now) }
     ensures sound { IfOk result (λ text. (replay : ReplayValue) → replay_of input.now ≡ Ok replay → ReplaysSoundly replay text.items) }
 {
     let front = read_front(alloc, input)?;

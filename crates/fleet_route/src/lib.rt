@@ -5,6 +5,7 @@
 //! with the labels of the cells.
 #![tactic(auto)]
 
+pub mod form;
 mod named;
 pub mod refused;
 pub mod route;

@@ -1,7 +1,9 @@
-pub mod Answering
+mod CommandCounts
 pub mod Endings
+mod Faults
 pub mod Goals
 pub mod Proposals
 pub mod Refusing
 pub mod Replans
 pub mod Runs
+mod ScriptSegments

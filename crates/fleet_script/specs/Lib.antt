@@ -1,4 +1,5 @@
 pub mod Carried
+pub mod Form
 pub mod Script
 pub mod Sound
 pub mod Stops

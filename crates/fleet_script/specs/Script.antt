@@ -1,17 +1,15 @@
 -- Scripts: a scenario with commands behind it, and what they print.
 use Rattle.std.specs.Prelude.{ℕ, ◌+◌, List, map, drop, Result, Ok, Err}
-use Rattle.fleet_base.specs.declared.limits.TheConstants.{MAX_CAP}
 use Rattle.fleet_commands.specs.Commands.{call_of}
 use Rattle.fleet_commands.specs.Reading.{commands_of}
 use Rattle.fleet_commands.specs.declared.command.Command.{Command}
 use Rattle.fleet_model.specs.Calls.{Call}
-use Rattle.fleet_model.specs.States.{State, start_state}
 use Rattle.fleet_texts.specs.Samples.{run_text}
 use Rattle.scenario.specs.Scenarios.{ScenarioValue}
 use Rattle.scenario_reader.specs.Reading.{FrontValue, front_of}
 use Rattle.scenario_reader.specs.Tables.{mapped}
 use Rattle.site_lines.specs.declared.fault.At.{At}
-use Rattle.site_map.specs.Claims.{site_of}
+use Rattle.run_base.specs.Openings.{opening_of}
 
 -- a scenario, and the commands behind it
 pub record ScriptValue : Type 0 where
@@ -28,10 +26,6 @@ with_commands text (Err at) = Err at
 -- the script that a text is, or its first bad line with its least code
 abbrev pub script_of : List ℕ → Result ScriptValue At
 script_of text = with_commands text (front_of text)
-
--- the state that the script's robots start in
-abbrev pub opening_of : ScenarioValue → State
-opening_of scenario = start_state (site_of scenario.site) scenario.starts MAX_CAP
 
 -- the calls that the commands are, in order
 abbrev pub calls_of : ScriptValue → List (ℕ × Call)

@@ -3,18 +3,14 @@ use Rattle.std.specs.Prelude.{◌≡◌, ℕ, List, ◌++◌, map}
 use Rattle.fleet_base.specs.declared.entries.Entry.{Entry}
 use Rattle.fleet_model.specs.Calls.{answers, entries_of}
 use Rattle.fleet_model.specs.Journals.{IsJournal, state_after}
-use Rattle.fleet_model.specs.Plans.{Fleet}
-use Rattle.fleet_model.specs.Replays.{IsLegal, opening}
 use Rattle.fleet_model.specs.Sound.{IsSoundJournal}
 use Rattle.fleet_texts.specs.Answers.{answer_text}
 use Rattle.fleet_texts.specs.StateTexts.{state_text}
 use Rattle.fleet_texts.specs.Texts.{journal_text}
 use Rattle.fleet_texts.specs.Words.{lines_text}
-use Rattle.fleet_script.specs.Script.{ScriptValue, calls_of, opening_of}
-
--- the events that were reported can happen in this order: no robot acquires what conflicts with what another holds
-abbrev pub IsLegalReplay : Fleet → Type 0
-IsLegalReplay m = IsLegal m.site (opening m.site m.starts) m.finished
+use Rattle.run_base.specs.Openings.{opening_of}
+use Rattle.run_base.specs.Sound.{IsLegalReplay}
+use Rattle.fleet_script.specs.Script.{ScriptValue, calls_of}
 
 -- the lines of the answers of a script's calls
 abbrev pub answer_lines : ScriptValue → List ℕ

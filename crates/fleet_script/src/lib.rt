@@ -5,6 +5,8 @@
 #![tactic(auto)]
 
 mod carrying;
+pub mod form;
+pub mod laws;
 mod reading;
 pub mod refused;
 pub mod script;

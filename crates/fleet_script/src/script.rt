@@ -1,9 +1,10 @@
 //! A script: read, carried out and printed.
 
-ghost use Rattle.std.specs.Prelude.{◌≡◌, ◌^◌, ◌-◌, ◌<◌, ◌≤◌, All, IfOk, OnOk, Ok, length};
-ghost use Rattle.coordinator.specs.Books.{start_book};
-ghost use Rattle.fleet_base.specs.declared.limits.TheConstants.{MAX_CAP};
+ghost use Rattle.std.specs.Prelude.{◌≡◌, ◌^◌, ◌-◌, ◌<◌, All, Err, IfOk, OnOk, Ok, length};
 ghost use Rattle.fleet_commands.specs.Commands.{IsDeclared};
+ghost use Rattle.fleet_script.specs.Form.{IsBadScript};
+ghost use Rattle.fleet_script.specs.declared.refused.ScriptRefused.TheVariants.{Bad};
+ghost use Rattle.site_lines.specs.declared.fault.At.{At};
 ghost use Rattle.fleet_script.specs.Script.{ScriptValue, printed, script_of, script_text};
 ghost use Rattle.fleet_script.specs.Sound.{PrintsSoundly};
 ghost use Rattle.fleet_script.specs.Stops.{Gives, script_value};
@@ -11,13 +12,10 @@ ghost use Rattle.fleet_script.specs.Stops.{Gives, script_value};
 use crate::carrying::carry_out;
 use crate::reading::{Script, read_script};
 use crate::refused::ScriptRefused;
-use coordinator::coordinator::Coordinator;
-use fleet_base::limits::MAX_CAP;
-use fleet_base::path::{NoMemory, Path};
+use fleet_base::path::NoMemory;
 use fleet_report::state::push_state;
 use fleet_texts::journal::push_journal;
-use scenario::scenario::Parts;
-use site_map::site::Site;
+use run_base::open::{Opened, open};
 use std::alloc::Global;
 
 /// What the script prints that a text is: a line for each answer, the journal of the accepted
@@ -30,7 +28,18 @@ pub fn script(alloc: Global, input: &[u8]) -> Result<Vec<u8>, ScriptRefused>
     // The text is the one that the script prints, or the refusal names its first bad line; or
     // memory ran out.
     ensures is { Gives (λ text. text.items) result (script_text input.now) }
+    // A bad line that is named is the first one of the scenario, or else of the commands behind it.
+    ensures causes { (at : At) → result ≡ Err (Bad at) → IsBadScript input.now at }
     // The journal that is printed is legal and sound, and its state is the one that is printed.
+    ensures sound { IfOk result (λ text. (script : ScriptValue) → script_of input.now ≡ Ok script → PrintsSoundly script text.items) }
+{
+    carried_out(alloc, input)
+}
+
+// The same, by the clauses of which `causes` is a consequence.
+fn carried_out(alloc: Global, input: &[u8]) -> Result<Vec<u8>, ScriptRefused>
+    requires { length input.now < 2 ^ 32 - 1 }
+    ensures is { Gives (λ text. text.items) result (script_text input.now) }
     ensures sound { IfOk result (λ text. (script : ScriptValue) → script_of input.now ≡ Ok script → PrintsSoundly script text.items) }
 {
     let script = read_script(alloc, input)?;
@@ -44,29 +53,10 @@ fn run(alloc: Global, script: Script) -> Result<Vec<u8>, NoMemory>
     ensures sound { OnOk result (PrintsSoundly (script_value script) (printed (script_value script))) }
 {
     let Script { scenario, commands } = script;
-    let Parts {
-        site,
-        names,
-        starts,
-        ..
-    } = scenario.into_parts();
-    let mut fleet = open(alloc, site, &starts)?;
+    let Opened { names, mut fleet } = open(alloc, scenario)?;
     let mut text = Vec::new(alloc);
     carry_out(&mut text, &names, &mut fleet, &commands)?;
     push_journal(&mut text, &names, fleet.journal())?;
     push_state(&mut text, &names, &fleet)?;
     Ok(text)
-}
-
-// The coordinator of robots that start in these cells, of which no two conflict.
-fn open(alloc: Global, site: Site, starts: &Path) -> Result<Coordinator, NoMemory>
-    requires few { length starts.now ≤ 64 }
-    requires known { All (λ a. a.0 < site.cells) starts.now }
-    ensures { IfOk result (λ fleet. fleet ≡ start_book site starts.now MAX_CAP) }
-{
-    // The starts of a scenario are some and don't conflict, so what is refused lacks memory.
-    match Coordinator::new(alloc, site, starts.cells(), MAX_CAP) {
-        Ok(fleet) => Ok(fleet),
-        Err(_) => Err(NoMemory),
-    }
 }

@@ -1,11 +1,11 @@
 use Rattle.std.proofs.Common.{◌≡◌, ◌+◌, ◌<◌, drop, get_or, length, ℕ, List, [], ◌∷◌, sym, ap, subst, ◌∙◌, arith, rules}
 use Rattle.std.proofs.lemmas.List.{drop_all, drop_more}
-use Rattle.coordinator.specs.Books.{Book}
+use Rattle.coordinator.specs.Books.{Book, IsLegalBook, state_of}
+use Rattle.coordinator.proofs.Leaving.{leaves}
 use Rattle.fleet_commands.specs.Commands.{call_of}
 use Rattle.fleet_commands.specs.declared.command.Command.{Command}
 use Rattle.fleet_model.specs.States.{State}
 use Rattle.fleet_script.specs.Carried.{HasGoal}
-use Rattle.fleet_script.proofs.Answering.{reaches}
 use Rattle.fleet_script.proofs.Endings.{all_carried, carried, in_the_end}
 use Rattle.fleet_script.proofs.carrying.carry_out.Goals as goal
 
@@ -29,12 +29,13 @@ loop-command-preserved c =
     let new : Book = c.answer.new.fleet in
     let made = call_of old.site command in
     let kept = c.journal-kept.ensures in
+    let legal : IsLegalBook old = record { site = kept.site; opening = kept.opening; legal = kept.legal } in
     let answered = c.in_ok-answer.ensures in
     let here : get_or commands i command ≡ command = search rules in
     let within : i < length commands = omega (arith, c.loop-command-test.true) in
     let split : drop i commands ≡ command ∷ drop (i + 1) commands = drop_more commands i command within ∙ ap (λ x. x ∷ drop (i + 1) commands) here in
     carried names command (drop (i + 1) commands) old c.loop-command.text.items new c.answer.new.text.items c.push_text.new.text.items answered
-    (reaches old new made.0 made.1 kept.site kept.opening kept.legal kept.state answered.book) c.in_ok-push_text.ensures.ok
+    (ap state_of answered.book ∙ leaves old legal made.0 made.1) c.in_ok-push_text.ensures.ok
     ∙ ap (λ cs. in_the_end names cs old c.loop-command.text.items) (sym split)
     ∙ c.loop-command.invariant
 

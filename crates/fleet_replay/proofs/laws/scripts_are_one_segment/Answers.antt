@@ -1,5 +1,0 @@
-use Rattle.fleet_replay.proofs.ScriptSegments.{script_whole}
-use Rattle.fleet_replay.proofs.laws.scripts_are_one_segment.Goals as goal
-
-pub returns : goal.returns
-returns c = λ input script short is. script_whole input script short is
