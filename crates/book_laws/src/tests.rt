@@ -1,4 +1,4 @@
-//! The laws at a coordinator that is handed in.
+//! The laws at a coordinator that is handed in, and what its graph keeps.
 
 ghost use Rattle.std.specs.Prelude.{◌≡◌, ◌≢◌, ◌↔◌, Err};
 ghost use Rattle.fleet_base.specs.declared.answers.ProposeRefused.TheVariants.{Full, NoMemory};
@@ -10,8 +10,11 @@ ghost use Rattle.coordinator.specs.Books.{state_of};
 use crate::laws::{allowed_orders_are_accepted, deferral_is_exact};
 use coordinator::coordinator::Coordinator;
 use fleet_base::answers::{ProposeRefused, Proposed};
-use fleet_base::numbers::{CellNo, Event, RobotNo};
+use fleet_base::numbers::{CellNo, Event, EventNo, RobotNo};
 use site_map::builder::SiteBuilder;
+use site_map::refused::BuildRefused;
+use site_map::site::Site;
+use std::alloc::Global;
 use std::test::Fail;
 
 // With room and memory a legal route is merged exactly where some insertion of it is safe.
@@ -53,5 +56,48 @@ fn laws_hold_of_any_coordinator(rt: HostRuntime) -> Result<(), Fail> {
     assert!(rt; matches!(merged, Ok(Proposed::Merged(_))));
     report_all(&mut fleet, &[]);
     assert_eq!(rt; fleet.owed(), 3);
+    Ok(())
+}
+
+// Lanes from cell 1 to the cells 0, 2 and 3.
+fn junction(alloc: Global) -> Result<Site, BuildRefused> {
+    let mut builder = SiteBuilder::new(alloc);
+    for _ in 0..4u32 {
+        builder.cell()?;
+    }
+    for other in [0, 2, 3u32] {
+        builder.link(CellNo(1), CellNo(other), 1)?;
+        builder.link(CellNo(other), CellNo(1), 1)?;
+    }
+    Ok(builder.finish())
+}
+
+// The calls of robots, without what their contracts tell: a test looks at their answers alone.
+
+fn is_merged(fleet: &mut Coordinator, robot: RobotNo, cells: &[CellNo]) -> bool {
+    matches!(fleet.propose(robot, cells), Ok(Proposed::Merged(_)))
+}
+
+fn is_reported(fleet: &mut Coordinator, robot: RobotNo, event: EventNo) -> bool {
+    fleet.report(robot, event).is_ok()
+}
+
+fn kept(fleet: &Coordinator) -> u64 {
+    fleet.graph().kept()
+}
+
+#[test]
+fn the_graph_keeps_unfinished_events_alone(rt: HostRuntime) -> Result<(), Fail> {
+    let site = junction(rt.alloc())?;
+    assert!(rt; site.cell_count() == 4);
+    let mut fleet = Coordinator::new(rt.alloc(), site, &[CellNo(0), CellNo(3)], 100)?;
+    let (first, second) = (RobotNo(0), RobotNo(1));
+    assert!(rt; is_merged(&mut fleet, first, &[CellNo(0), CellNo(1), CellNo(2)]));
+    assert!(rt; is_merged(&mut fleet, second, &[CellNo(3), CellNo(1)]));
+    assert_eq!(rt; kept(&fleet), 9);
+    for event in 1..=6 {
+        assert!(rt; is_reported(&mut fleet, first, EventNo(event)));
+    }
+    assert_eq!(rt; kept(&fleet), 3);
     Ok(())
 }
