@@ -1,11 +1,8 @@
 -- A graph of a fleet's unfinished events answers for its plan.
-use Rattle.std.proofs.Common.{◌≡◌, ◌↔◌, ℕ, sym, ap, subst, ◌∙◌, length}
+use Rattle.std.proofs.Common.{◌≡◌, ◌↔◌, sym, ap, subst, ◌∙◌, length}
 use Rattle.std.specs.Prelude.{slice_get}
-use Rattle.std.specs.List.{list_any}
-use Rattle.fleet_base.specs.declared.numbers.Event.{Event}
 use Rattle.fleet_model.specs.Lists.{In}
-use Rattle.fleet_model.specs.Plans.{Fleet, IsBehind, IsReady, is_awaited, own, unfinished}
-use Rattle.fleet_model.specs.Calls.{waits_on}
+use Rattle.fleet_model.specs.Plans.{Fleet, IsBehind, IsReady, own, unfinished}
 use Rattle.fleet_model.specs.Good.{IsGoodPlan}
 use Rattle.event_graph.specs.Graphs.{Graph, IsReadyAmong, greatest_after, has_waiting}
 use Rattle.event_graph.proofs.Whole.{awaited_whole, next_whole, ready_whole, waits_whole}

@@ -5,6 +5,8 @@ pub mod CyclesShown
 pub mod DeferredRoutes
 pub mod Detouring
 pub mod EndCells
+pub mod Entries
+pub mod Goals
 pub mod KeptNext
 pub mod Leaving
 pub mod Lent

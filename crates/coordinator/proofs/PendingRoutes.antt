@@ -1,5 +1,5 @@
 -- Pending routes and their blockers, over the tables.
-use Rattle.std.proofs.Common.{◌≡◌, ℕ, ◌<◌, ◌≤◌, List, length, get_or, Option, Some, None, sym, ap, subst, ◌∙◌, refl, arith}
+use Rattle.std.proofs.Common.{◌≡◌, ℕ, List, Option, Some, None, sym, ap, subst, ◌∙◌, refl}
 use Rattle.std.specs.Prelude.{slice_get, []}
 use Rattle.std.specs.Option.{option_map, unwrap_or}
 use Rattle.fleet_base.specs.Lists.{robots_of}
@@ -8,10 +8,9 @@ use Rattle.fleet_base.specs.declared.numbers.CellNo.{CellNo}
 use Rattle.fleet_base.specs.declared.numbers.ClaimNo.{ClaimNo}
 use Rattle.fleet_base.specs.declared.numbers.RobotNo.{RobotNo}
 use Rattle.fleet_model.specs.Sites.{Site, footprint_of, needs}
-use Rattle.fleet_model.specs.Plans.{IsRoute, end_of}
+use Rattle.fleet_model.specs.Plans.{IsRoute}
 use Rattle.fleet_model.specs.Deferral.{ends, least_blocker}
 use Rattle.fleet_model.specs.States.{State, block_of, cycle_of, pending_of}
-use Rattle.fleet_model.proofs.Blockers.{length-ends}
 use Rattle.deferral.specs.Backlogs as backlogs
 use Rattle.deferral.specs.Laws.{ShowsEnds}
 use Rattle.fleet_base.specs.declared.answers.Blocker.{Blocker}

@@ -1,5 +1,5 @@
 -- Proposals that are accepted.
-use Rattle.std.proofs.Common.{not, drop, ◌≡◌, ℕ, ◌+◌, ◌-◌, ◌<◌, false, List, [], ◌∷◌, ◌++◌, length, get_or, Option, Some, None, sym, ap, subst, ◌∙◌, refl}
+use Rattle.std.proofs.Common.{not, drop, ◌≡◌, ℕ, ◌+◌, ◌-◌, ◌<◌, Bool, true, false, List, [], ◌∷◌, ◌++◌, length, get_or, Option, Some, None, sym, ap, subst, ◌∙◌, refl}
 use Rattle.std.proofs.lemmas.Bool.{ltb-true, not-false}
 use Rattle.std.specs.Option.{is_some}
 use Rattle.fleet_base.specs.declared.answers.Block.{Block}
@@ -43,6 +43,23 @@ room_alone s r cells block early room =
 
 proceeds : (s : State) (r : ℕ) (cells : List CellNo) (block : Option Block) → early_cause s r cells ≡ None → is_full s (propose_growth s cells block) ≡ false → by_block s r cells block ≡ propose_outcome s r cells block
 proceeds s r cells block early room = ap (λ o. unless_refused o s (propose_outcome s r cells block)) (room_alone s r cells block early room)
+
+outcome_some : (s : State) (r : ℕ) (cells : List CellNo) (block : Option Block) → is_some (propose_outcome s r cells block).entry ≡ true
+outcome_some s r cells None = refl
+outcome_some s r cells (Some block) = refl
+
+no_room : (s : State) (r : ℕ) (cells : List CellNo) (block : Option Block) → early_cause s r cells ≡ None → is_full s (propose_growth s cells block) ≡ true → first_some (propose_refusals s r cells block) ≡ Some refused.Full
+no_room s r cells block early full =
+    first_append (early_refusals s r cells) (when (is_full s (propose_growth s cells block)) refused.Full ∷ []) early
+    ∙ ap (λ b. first_some (when b refused.Full ∷ [])) full
+
+-- without an early cause a proposal is accepted exactly where there is room
+pub accepted_by : (s : State) (r : ℕ) (cells : List CellNo) (block : Option Block) → early_cause s r cells ≡ None → block_of (deferring s r cells) r cells ≡ block → not (is_full s (propose_growth s cells block)) ≡ is_some (propose s r cells).entry
+accepted_by s r cells block early is = by_room (is_full s (propose_growth s cells block)) refl
+  where
+    by_room : (full : Bool) → is_full s (propose_growth s cells block) ≡ full → not full ≡ is_some (propose s r cells).entry
+    by_room false room = sym (ap (λ (t : Step Proposed ProposeRefused). is_some t.entry) (ap (by_block s r cells) is ∙ proceeds s r cells block early room) ∙ outcome_some s r cells block)
+    by_room true full = sym (ap (λ (t : Step Proposed ProposeRefused). is_some t.entry) (ap (by_block s r cells) is ∙ ap (λ o. unless_refused o s (propose_outcome s r cells block)) (no_room s r cells block early full)))
 
 pub merged_is : (s : State) (r : ℕ) (cells : List CellNo) → early_cause s r cells ≡ None → block_of (deferring s r cells) r cells ≡ None → is_full s (1 + length (steps s.fleet.site cells)) ≡ false
     → propose s r cells ≡ accepted (proposed.Merged (span_of s cells)) r (act.Merged cells (first_of s)) (in_segment s (1 + length (steps s.fleet.site cells)) (with_route s r cells))

@@ -1,19 +1,17 @@
 -- Pending routes that are put in one after the other, and what a checkpoint without a fault opens.
-use Rattle.std.proofs.Common.{◌≡◌, ℕ, zero, suc, ◌+◌, ◌<◌, ◌≤◌, Bool, true, false, not, ◌&&◌, ◌||◌, ◌==◌, ◌⊎◌, inl, inr, refl, sym, ap, ◌∙◌, subst, List, [], ◌∷◌, map, length, drop, set, get_or, arith, Option, Some, None}
+use Rattle.std.proofs.Common.{◌≡◌, ℕ, zero, suc, ◌+◌, ◌<◌, ◌≤◌, Bool, true, false, ◌&&◌, ◌||◌, ◌==◌, ◌⊎◌, inl, inr, refl, sym, ap, ◌∙◌, subst, List, [], ◌∷◌, map, length, drop, set, get_or, arith, Option, Some, None}
 use Rattle.std.proofs.lemmas.Bool.{and_parts, cases_lt, eqb-true, le-ltb, lt-ltb, ltb-false, not-false, or_parts}
 use Rattle.std.proofs.lemmas.List.{at_drop_more, drop_all, get_or_past, length-map, length-set}
 use Rattle.std.proofs.lemmas.Option.{same_Some, slice_get-get_or}
 use Rattle.std.specs.Prelude.{nat_lt, slice_get}
-use Rattle.std.specs.List.{filter, list_any}
+use Rattle.std.specs.List.{filter}
 use Rattle.std.specs.Option.{is_none, is_some, option_map}
-use Rattle.fleet_base.specs.declared.limits.TheConstants.{MAX_COUNT, MAX_FIRST}
+use Rattle.fleet_base.specs.declared.limits.TheConstants.{MAX_FIRST}
 use Rattle.fleet_base.specs.declared.numbers.CellNo.{CellNo}
-use Rattle.fleet_base.specs.declared.numbers.ClaimNo.{ClaimNo}
 use Rattle.fleet_model.specs.Lists.{first_some, when}
-use Rattle.fleet_model.specs.Sites.{Site, needs}
+use Rattle.fleet_model.specs.Sites.{Site}
 use Rattle.fleet_model.specs.Replays.{start_at}
-use Rattle.fleet_model.specs.Plans.{IsRoute}
-use Rattle.fleet_model.specs.States.{State, opening_state, owed, pending_of}
+use Rattle.fleet_model.specs.States.{State, opening_state, pending_of}
 use Rattle.fleet_model.specs.Calls.{begin_at}
 use Rattle.fleet_model.specs.Good.{IsOpening}
 use Rattle.fleet_model.proofs.Accepted.{start_of}

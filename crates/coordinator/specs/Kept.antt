@@ -1,5 +1,5 @@
 -- How a coordinator is kept.
-use Rattle.std.specs.Prelude.{◌≡◌, ◌+◌, ◌<◌, ◌≤◌, All, length, map, None, vec_len}
+use Rattle.std.specs.Prelude.{◌≡◌, ◌+◌, ◌<◌, ◌≤◌, All, length, vec_len}
 use Rattle.std.specs.Vec.{vec_capacity}
 use Rattle.fleet_model.specs.Sites.{IsSite}
 use Rattle.fleet_model.specs.Plans.{unfinished}

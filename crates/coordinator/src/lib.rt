@@ -2,6 +2,7 @@
 //! accepted.
 #![tactic(auto)]
 
+mod call;
 mod cancel;
 pub mod coordinator;
 pub mod laws;

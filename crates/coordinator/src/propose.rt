@@ -104,7 +104,11 @@ impl Coordinator {
 
     // The number of events of the proposed route; or the first cause for which no plan of the other
     // robots would take it.
-    fn check_proposal(&self, robot: RobotNo, cells: &[CellNo]) -> Result<u64, ProposeRefused>
+    pub(crate) fn check_proposal(
+        &self,
+        robot: RobotNo,
+        cells: &[CellNo],
+    ) -> Result<u64, ProposeRefused>
         ensures answer { result ≡ refused_or (early_cause (state_of self.now) robot.0 cells.now)
             (length (steps (site_of self.now.site) cells.now)) }
         ensures small { IfOk result (λ events. events < 2 ^ 32) }

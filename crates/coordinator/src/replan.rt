@@ -23,7 +23,7 @@ use route_plan::route::Route;
 
 // A detour, what the robot does in it, and where that ends.
 #[derive(Drop)]
-struct Detour {
+pub(crate) struct Detour {
     route: Path,
     kinds: Vec<Kind>,
     end: CellNo,
@@ -46,7 +46,11 @@ impl Coordinator {
     }
 
     // The detour with what the robot does in it, or why the pending route stays.
-    fn detour_steps(&self, robot: RobotNo, goal: &CellSet) -> Result<Detour, ReplanRefused>
+    pub(crate) fn detour_steps(
+        &self,
+        robot: RobotNo,
+        goal: &CellSet,
+    ) -> Result<Detour, ReplanRefused>
         ensures refused { IfErr result (λ refused. IsReplanAnswer (Err refused)
             (replan (state_of self.now) robot.0 (has goal.now)).answer) }
         ensures due { IfOk result (λ d. (replan (state_of self.now) robot.0 (has goal.now)).answer

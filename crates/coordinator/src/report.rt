@@ -26,7 +26,7 @@ impl Coordinator {
     }
 
     // The robot's next event, if it has this number and waits for no other.
-    fn reportable(&self, robot: RobotNo, event: EventNo) -> Result<Event, ReportRefused>
+    pub(crate) fn reportable(&self, robot: RobotNo, event: EventNo) -> Result<Event, ReportRefused>
         ensures found { IfOk result (IsReportable self.now robot.0 event) }
         ensures refused { IfErr result (λ e. (report (state_of self.now) robot.0 event).answer ≡ Err e) }
     {

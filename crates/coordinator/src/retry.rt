@@ -34,7 +34,7 @@ impl Coordinator {
     }
 
     // What the robot does in its pending route and where that ends, or why the route stays pending.
-    fn pending_steps(&self, robot: RobotNo) -> Result<(Vec<Kind>, CellNo), RetryRefused>
+    pub(crate) fn pending_steps(&self, robot: RobotNo) -> Result<(Vec<Kind>, CellNo), RetryRefused>
         ensures refused { IfErr result (λ refused. IsAnswer retry_refused.NoMemory (Err refused)
             (retry (state_of self.now) robot.0).answer) }
         ensures due { IfOk result (λ p. (retry (state_of self.now) robot.0).answer

@@ -1,6 +1,9 @@
 //! Runs of robots at a junction, in the middle of which, cell 1, three lanes meet.
+//!
+//! The calls are made through small functions of this file that tell nothing of them: a test looks at
+//! their answers alone, and its proof needn't carry the machine's states along.
 
-ghost use Rattle.std.specs.Prelude.{◌<◌};
+ghost use Rattle.std.specs.Prelude.{◌<◌, ◌≤◌, All, length};
 
 use crate::coordinator::Coordinator;
 use crate::refused::NewRefused;
@@ -18,6 +21,8 @@ use std::alloc::Global;
 use std::process::Abort;
 use std::test::Fail;
 
+const ONLY: RobotNo = RobotNo(0);
+
 // Lanes from cell 1 to the cells 0, 2 and 3.
 fn junction(alloc: Global) -> Result<Site, BuildRefused> {
     let mut builder = SiteBuilder::new(alloc);
@@ -31,8 +36,18 @@ fn junction(alloc: Global) -> Result<Site, BuildRefused> {
     Ok(builder.finish())
 }
 
-// The calls of robots, without what their contracts tell: a test looks at their answers alone, and a
-// proof needn't carry the machine's states along.
+// A coordinator of robots that start in these cells of the junction.
+fn started(alloc: Global, starts: &[CellNo], cap: u32) -> Result<Coordinator, Fail>
+    requires few { length starts.now ≤ 64 }
+    requires known { All (λ a. a.0 < 4) starts.now }
+    requires cap { cap ≤ 1000000 }
+{
+    let site = junction(alloc)?;
+    if site.cell_count() != 4 {
+        return Err(Fail::new("not the junction"));
+    }
+    Ok(Coordinator::new(alloc, site, starts, cap)?)
+}
 
 fn propose(
     fleet: &mut Coordinator,
@@ -42,81 +57,83 @@ fn propose(
     fleet.propose(robot, cells)
 }
 
-fn report(fleet: &mut Coordinator, robot: RobotNo, event: EventNo) -> Result<(), ReportRefused> {
-    fleet.report(robot, event)
+fn report(fleet: &mut Coordinator, event: EventNo) -> Result<(), ReportRefused> {
+    fleet.report(ONLY, event)
 }
 
 fn look(fleet: &Coordinator, robot: RobotNo) -> Result<Look, UnknownRobot> {
     fleet.look(robot)
 }
 
+// How many entries and how many marks there are, the next number, and what is owed.
+fn counts(fleet: &Coordinator) -> (usize, usize, EventNo, u64) {
+    let (entries, marks) = (fleet.journal().len(), fleet.marks().len());
+    (entries, marks, fleet.next_number(), fleet.owed())
+}
+
+// The last mark.
+fn last_mark(fleet: &Coordinator) -> Option<Mark> {
+    fleet.marks().last().copied()
+}
+
+// Whether there is no room for an outcome that grows by three, and for one that grows by four.
+fn rooms(fleet: &Coordinator) -> (bool, bool) {
+    (fleet.is_full(3), fleet.is_full(4))
+}
+
+// The robot's place and end, and whether it holds this claim alone.
+fn spot(fleet: &Coordinator, claim: ClaimNo) -> (CellNo, CellNo, bool) {
+    let _some = fleet.robots(); // with its clauses: there is one
+    let held = fleet.holds(ONLY).list() == [claim].as_slice();
+    (fleet.at(ONLY), fleet.end(ONLY), held)
+}
+
 // The route was merged, under these numbers.
-fn check_merged(
-    rt: &impl Abort,
-    fleet: &mut Coordinator,
-    robot: RobotNo,
-    route: &[CellNo],
-    first: u64,
-    last: u64,
-) {
+fn check_merged(rt: &impl Abort, fleet: &mut Coordinator, route: &[CellNo], first: u64, last: u64) {
     let span = Span {
         first: EventNo(first),
         last: EventNo(last),
     };
-    assert_eq!(rt; propose(fleet, robot, route), Ok(Proposed::Merged(span)));
+    assert_eq!(rt; propose(fleet, ONLY, route), Ok(Proposed::Merged(span)));
 }
 
 // The robot reports these events.
-fn check_reports(rt: &impl Abort, fleet: &mut Coordinator, robot: RobotNo, first: u64, last: u64) {
+fn check_reports(rt: &impl Abort, fleet: &mut Coordinator, first: u64, last: u64) {
     for event in first..=last {
-        assert_eq!(rt; report(fleet, robot, EventNo(event)), Ok(()));
+        assert_eq!(rt; report(fleet, EventNo(event)), Ok(()));
     }
 }
 
-// Where the robot is, where it ends and what it holds.
-fn check_spot(
-    rt: &impl Abort,
-    fleet: &Coordinator,
-    robot: RobotNo,
-    at: CellNo,
-    end: CellNo,
-    held: &[ClaimNo],
-) {
-    assert!(rt; robot.0 < fleet.robots());
-    assert_eq!(rt; fleet.at(robot), at);
-    assert_eq!(rt; fleet.end(robot), end);
-    assert_eq!(rt; fleet.holds(robot).list(), held);
+// The only robot drives home: a merge from cell 1 to cell 0, and its reports. It is then in cell 0.
+fn check_home(rt: &impl Abort, fleet: &mut Coordinator) {
+    check_merged(rt, fleet, &[CellNo(1), CellNo(0)], 4, 6);
+    check_reports(rt, fleet, 4, 6);
+    assert_eq!(rt; spot(fleet, ClaimNo(0)), (CellNo(0), CellNo(0), true));
 }
 
-fn only(cell: u32) -> CellSet
-    requires { cell < 1024 }
+// What `new` says of these starts.
+fn refusal(alloc: Global, starts: &[CellNo]) -> Result<Option<NewRefused>, Fail>
+    requires few { length starts.now ≤ 64 }
+    requires known { All (λ a. a.0 < 4) starts.now }
 {
-    let mut set = CellSet::new();
-    set.put(CellNo(cell));
-    set
+    let site = junction(alloc)?;
+    if site.cell_count() != 4 {
+        return Err(Fail::new("not the junction"));
+    }
+    Ok(Coordinator::new(alloc, site, starts, 4).err())
 }
 
 #[test]
 fn refusals_have_their_causes(rt: HostRuntime) -> Result<(), Fail> {
-    let site = junction(rt.alloc())?;
-    assert!(rt; site.cell_count() == 4);
-    let (copy, other) = (site.copy()?, site.copy()?);
-    assert!(rt; copy.cell_count() == 4 && other.cell_count() == 4);
-    let none = Coordinator::new(rt.alloc(), copy, &[], 4);
-    assert!(rt; matches!(none, Err(NewRefused::NoRobot)));
-    let clash = Coordinator::new(rt.alloc(), other, &[CellNo(0), CellNo(0)], 4);
-    assert!(rt;
-        matches!(
-            clash,
-            Err(NewRefused::Clash {
-                one: RobotNo(0),
-                other: RobotNo(1),
-                claim: ClaimNo(0),
-            })
-        )
-    );
-    let mut fleet = Coordinator::new(rt.alloc(), site, &[CellNo(0)], 3)?;
-    let (only, unknown) = (RobotNo(0), RobotNo(1));
+    assert_eq!(rt; refusal(rt.alloc(), &[])?, Some(NewRefused::NoRobot));
+    let clash = NewRefused::Clash {
+        one: RobotNo(0),
+        other: RobotNo(1),
+        claim: ClaimNo(0),
+    };
+    assert_eq!(rt; refusal(rt.alloc(), &[CellNo(0), CellNo(0)])?, Some(clash));
+    let mut fleet = started(rt.alloc(), &[CellNo(0)], 3)?;
+    let unknown = RobotNo(1);
     assert_eq!(rt;
         propose(&mut fleet, unknown, &[CellNo(0)]),
         Err(ProposeRefused::UnknownRobot)
@@ -125,74 +142,56 @@ fn refusals_have_their_causes(rt: HostRuntime) -> Result<(), Fail> {
     Ok(())
 }
 
-// The only robot drives home: a merge from cell 1 to cell 0, and its reports. It is then in cell 0.
-fn check_home(rt: &impl Abort, fleet: &mut Coordinator) {
-    let only = RobotNo(0);
-    check_merged(rt, fleet, only, &[CellNo(1), CellNo(0)], 4, 6);
-    check_reports(rt, fleet, only, 4, 6);
-    check_spot(rt, fleet, only, CellNo(0), CellNo(0), &[ClaimNo(0)]);
-    assert_eq!(rt; fleet.next_number(), EventNo(7));
-    assert_eq!(rt; fleet.owed(), 0);
-}
-
 #[test]
 fn segments_follow_each_other(rt: HostRuntime) -> Result<(), Fail> {
-    let only = RobotNo(0);
-    let site = junction(rt.alloc())?;
-    assert!(rt; site.cell_count() == 4);
-    let mut fleet = Coordinator::new(rt.alloc(), site, &[CellNo(0)], 4)?;
-    check_merged(&rt, &mut fleet, only, &[CellNo(0), CellNo(1)], 1, 3);
-    assert_eq!(rt; fleet.owed(), 3);
-    let early = propose(&mut fleet, only, &[CellNo(1), CellNo(0)]);
+    let mut fleet = started(rt.alloc(), &[CellNo(0)], 4)?;
+    check_merged(&rt, &mut fleet, &[CellNo(0), CellNo(1)], 1, 3);
+    assert_eq!(rt; counts(&fleet), (1, 1, EventNo(4), 3));
+    let early = propose(&mut fleet, ONLY, &[CellNo(1), CellNo(0)]);
     assert_eq!(rt; early, Err(ProposeRefused::Full));
-    check_reports(&rt, &mut fleet, only, 1, 3);
+    check_reports(&rt, &mut fleet, 1, 3);
     check_home(&rt, &mut fleet);
     let second = Mark {
         before: 4,
         next: EventNo(4),
     };
-    assert_eq!(rt; fleet.marks().len(), 2);
-    assert_eq!(rt; fleet.marks().last().copied(), Some(second));
+    assert_eq!(rt; counts(&fleet), (8, 2, EventNo(7), 0));
+    assert_eq!(rt; last_mark(&fleet), Some(second));
     Ok(())
 }
 
 #[test]
 fn full_changes_nothing(rt: HostRuntime) -> Result<(), Fail> {
-    let only = RobotNo(0);
-    let site = junction(rt.alloc())?;
-    assert!(rt; site.cell_count() == 4);
-    let mut fleet = Coordinator::new(rt.alloc(), site, &[CellNo(0)], 3)?;
-    assert!(rt; fleet.is_full(4) && !fleet.is_full(3));
-    let full = propose(&mut fleet, only, &[CellNo(0), CellNo(1)]);
+    let mut fleet = started(rt.alloc(), &[CellNo(0)], 3)?;
+    assert_eq!(rt; rooms(&fleet), (false, true));
+    let full = propose(&mut fleet, ONLY, &[CellNo(0), CellNo(1)]);
     assert_eq!(rt; full, Err(ProposeRefused::Full));
-    assert_eq!(rt; fleet.journal().len(), 0);
-    assert_eq!(rt; fleet.marks().len(), 1);
-    assert_eq!(rt; fleet.next_number(), EventNo(1));
-    assert_eq!(rt; fleet.owed(), 0);
+    assert_eq!(rt; counts(&fleet), (0, 1, EventNo(1), 0));
     Ok(())
+}
+
+// A coordinator that goes on in cell 1, with number 4.
+fn resumed(alloc: Global) -> Result<Coordinator, Fail> {
+    let site = junction(alloc)?;
+    if site.cell_count() != 4 {
+        return Err(Fail::new("not the junction"));
+    }
+    let mut pending = Vec::new(alloc);
+    pending.push(None)?;
+    let from = Checkpoint {
+        next: EventNo(4),
+        at: vec![in alloc; CellNo(1); 1]?,
+        pending,
+    };
+    Ok(Coordinator::resume(alloc, site, &from, 4)?)
 }
 
 #[test]
 fn checkpoint_is_gone_on_from(rt: HostRuntime) -> Result<(), Fail> {
-    let site = junction(rt.alloc())?;
-    assert!(rt; site.cell_count() == 4);
-    let mut at = Vec::new(rt.alloc());
-    at.push(CellNo(1))?;
-    let mut pending = Vec::new(rt.alloc());
-    pending.push(None)?;
-    let from = Checkpoint {
-        next: EventNo(4),
-        at,
-        pending,
-    };
-    match Coordinator::resume(rt.alloc(), site, &from, 4) {
-        Ok(mut fleet) => {
-            assert_eq!(rt; fleet.opening().next, EventNo(4));
-            check_home(&rt, &mut fleet);
-            assert_eq!(rt; fleet.marks().len(), 1);
-        }
-        Err(_) => assert!(rt; false),
-    }
+    let mut fleet = resumed(rt.alloc())?;
+    assert_eq!(rt; counts(&fleet), (0, 1, EventNo(4), 0));
+    check_home(&rt, &mut fleet);
+    assert_eq!(rt; counts(&fleet), (4, 1, EventNo(7), 0));
     Ok(())
 }
 
@@ -214,15 +213,20 @@ fn made_again(alloc: Global, fleet: &Coordinator, goal: &CellSet) -> Result<Coor
     Ok(Coordinator::new(alloc, site, &fleet.opening().at, fleet.cap())?)
 }
 
+// The number of robots and the cap.
+fn settings(fleet: &Coordinator) -> (u32, u32) {
+    (fleet.robots(), fleet.cap())
+}
+
 #[test]
 fn coordinator_is_made_again(rt: HostRuntime) -> Result<(), Fail> {
-    let site = junction(rt.alloc())?;
-    assert!(rt; site.cell_count() == 4);
-    let mut fleet = Coordinator::new(rt.alloc(), site, &[CellNo(0), CellNo(1)], 9)?;
-    let deferred = propose(&mut fleet, RobotNo(0), &[CellNo(0), CellNo(1)]);
+    let mut fleet = started(rt.alloc(), &[CellNo(0), CellNo(1)], 9)?;
+    let deferred = propose(&mut fleet, ONLY, &[CellNo(0), CellNo(1)]);
     assert!(rt; matches!(deferred, Ok(Proposed::Deferred(_))));
-    let other = made_again(rt.alloc(), &fleet, &only(2))?;
-    assert_eq!(rt; (other.robots(), other.cap()), (2, 9));
-    assert_eq!(rt; other.journal().len(), 0);
+    let mut goal = CellSet::new();
+    goal.put(CellNo(2));
+    let other = made_again(rt.alloc(), &fleet, &goal)?;
+    assert_eq!(rt; settings(&other), (2, 9));
+    assert_eq!(rt; counts(&other), (0, 1, EventNo(1), 0));
     Ok(())
 }

@@ -32,7 +32,7 @@ impl Coordinator {
     }
 
     // What a withdrawal removes, and the cell in which the robot then ends.
-    fn removal(&self, robot: RobotNo) -> Result<Withdrawn, WithdrawRefused>
+    pub(crate) fn removal(&self, robot: RobotNo) -> Result<Withdrawn, WithdrawRefused>
         ensures found { IfOk result (IsRemoval self.now robot.0) }
         ensures refused { IfErr result (λ e. (withdraw (state_of self.now) robot.0).answer ≡ Err e) }
     {

@@ -1,30 +1,19 @@
 -- What commands ask for.
 use Rattle.std.specs.Prelude.{ℕ, ◌<◌, All}
 use Rattle.fleet_model.specs.Calls.{Call}
-use Rattle.fleet_model.specs.Calls as call
 use Rattle.fleet_names.specs.Names.{Named, count_of}
 use Rattle.fleet_names.specs.Things.{is_cell, is_area, is_robot}
 use Rattle.site_map.specs.Built.{BuiltSite}
-use Rattle.site_map.specs.Goals.{goal_cells}
 use Rattle.site_map.specs.declared.goal.Goal.{Goal}
 use Rattle.site_map.specs.declared.goal.Goal.TheVariants as goal
 use Rattle.fleet_commands.specs.declared.command.Command.{Command}
-use Rattle.fleet_commands.specs.declared.command.Request.{Request}
-use Rattle.fleet_commands.specs.declared.command.Request.TheVariants.{Propose, Retry, Cancel, Withdraw, Replan, Report, Look}
-
--- the call that a request is, on a site
-abbrev pub request_call : BuiltSite → Request → Call
-request_call site (Propose cells) = call.Propose cells
-request_call site Retry = call.Retry
-request_call site Cancel = call.Cancel
-request_call site Withdraw = call.Withdraw
-request_call site (Replan goal) = call.Replan (goal_cells site goal)
-request_call site (Report event) = call.Report event
-request_call site Look = call.LookAt
+use Rattle.fleet_calls.specs.Calls as requested
+use Rattle.fleet_calls.specs.declared.request.Request.{Request}
+use Rattle.fleet_calls.specs.declared.request.Request.TheVariants.{Propose, Retry, Cancel, Withdraw, Replan, Report, Look}
 
 -- the call that a command is, with the number of its robot
 abbrev pub call_of : BuiltSite → Command → ℕ × Call
-call_of site command = (command.robot.0, request_call site command.request)
+call_of site command = (command.robot.0, requested.call_of site command.request)
 
 -- the goal has a name
 abbrev pub IsDeclaredGoal : Named → Goal → Type 0

@@ -7,7 +7,7 @@ use Rattle.site_lines.specs.declared.fault.At.{At}
 use Rattle.site_lines.specs.declared.fault.Code.{Code}
 use Rattle.site_map.specs.Built.{BuiltSite}
 use Rattle.fleet_commands.specs.declared.command.Command.{Command}
-use Rattle.fleet_commands.specs.declared.command.Request.{Request}
+use Rattle.fleet_calls.specs.declared.request.Request.{Request}
 use Rattle.fleet_commands.specs.Reading.{commands_of}
 
 -- the cells a, b, c and d, the crossing x, the area yard and the robots r1 and r2

@@ -11,8 +11,8 @@ use Rattle.site_lines.specs.Numbers.{is_number}
 use Rattle.site_lines.specs.Readings.{Row, least_code, read_from}
 use Rattle.site_lines.specs.Words.{words_of, has_bad_byte}
 use Rattle.fleet_commands.specs.declared.command.Command.{Command}
-use Rattle.fleet_commands.specs.declared.command.Request.{Request}
-use Rattle.fleet_commands.specs.declared.command.Request.TheVariants as request
+use Rattle.fleet_calls.specs.declared.request.Request.{Request}
+use Rattle.fleet_calls.specs.declared.request.Request.TheVariants as request
 use Rattle.fleet_commands.specs.declared.keyword.Keyword.{Keyword}
 use Rattle.fleet_commands.specs.declared.keyword.Keyword.TheVariants.{Propose, Retry, Cancel, Withdraw, Replan, Report, Look}
 use Rattle.fleet_commands.specs.Keywords.{keyword_of}

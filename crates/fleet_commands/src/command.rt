@@ -1,33 +1,14 @@
 //! Commands to robots.
 
-use fleet_base::numbers::{EventNo, RobotNo};
-use fleet_base::path::Path;
-use site_map::goal::Goal;
+use fleet_base::numbers::RobotNo;
+use fleet_calls::request::Request;
 
-/// A command: what a robot is to ask of the coordinator.
+/// A command: what a robot is to ask of the coordinator. The number of a report's event is below
+/// 1,000,000,000,000,000.
 #[derive(Drop)]
 pub struct Command {
     /// The robot.
     pub robot: RobotNo,
     /// What it asks.
     pub request: Request,
-}
-
-/// What a command asks, which is the coordinator's call of that name.
-#[derive(Drop)]
-pub enum Request {
-    /// To take this route, whose cells stand in order.
-    Propose(Path),
-    /// To try the pending route again.
-    Retry,
-    /// To drop the pending route.
-    Cancel,
-    /// To take the last events of the robot back, as many as may be.
-    Withdraw,
-    /// To replace the pending route by a detour to this goal.
-    Replan(Goal),
-    /// To take the event as done. Its number is below 1,000,000,000,000,000.
-    Report(EventNo),
-    /// To say how the robot stands.
-    Look,
 }

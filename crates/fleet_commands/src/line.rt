@@ -12,13 +12,14 @@ ghost use Rattle.fleet_commands.specs.Reading.{first, undeclared, robot_faults, 
 ghost use Rattle.fleet_commands.specs.UsedNames.{cells_named, robot_named};
 ghost use Rattle.fleet_commands.specs.declared.keyword.Keyword.TheVariants as word;
 
-use crate::command::{Command, Request};
+use crate::command::Command;
 use crate::keyword::{Keyword, keyword_of};
 use crate::refused::LineRefused;
 use crate::used_names::{cell_named, goal_named, robot_named};
 use crate::words::Words;
 use fleet_base::numbers::EventNo;
 use fleet_base::path::Path;
+use fleet_calls::request::Request;
 use fleet_names::names::Names;
 use site_lines::fault::Code;
 use site_lines::line::is_too_long;

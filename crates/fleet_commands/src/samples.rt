@@ -11,7 +11,7 @@ ghost use Rattle.fleet_commands.specs.Commands.{call_of};
 ghost use Rattle.fleet_commands.specs.Examples.{said, asks, cells, bad, junction_site};
 ghost use Rattle.fleet_commands.specs.Reading.{faults_of};
 
-use crate::command::Request;
+use fleet_calls::request::Request;
 use site_lines::fault::Code;
 use site_map::goal::Goal;
 

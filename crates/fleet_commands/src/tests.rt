@@ -1,7 +1,8 @@
 // The reader with ample memory.
-use crate::command::{Command, Request};
+use crate::command::Command;
 use crate::read::read_commands;
 use crate::refused::ReadRefused;
+use fleet_calls::request::Request;
 use fleet_names::names::{NameRefused, Names};
 use fleet_names::thing::Thing;
 use site_lines::fault::{At, Code};

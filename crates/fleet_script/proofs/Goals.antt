@@ -2,13 +2,13 @@
 use Rattle.std.proofs.Common.{ℕ, List, get_or, All, arith}
 use Rattle.fleet_commands.specs.Commands.{IsDeclared, IsDeclaredRequest}
 use Rattle.fleet_commands.specs.declared.command.Command.{Command}
-use Rattle.fleet_commands.specs.declared.command.Request.{Request}
-use Rattle.fleet_commands.specs.declared.command.Request.TheVariants as request
+use Rattle.fleet_calls.specs.declared.request.Request.{Request}
+use Rattle.fleet_calls.specs.declared.request.Request.TheVariants as request
 use Rattle.fleet_names.specs.Names.{Named}
 use Rattle.scenario.specs.Scenarios.{NamesAll}
 use Rattle.site_map.specs.Built.{BuiltSite}
 use Rattle.site_map.specs.declared.goal.Goal.TheVariants as goal
-use Rattle.fleet_script.specs.Carried.{HasGoal}
+use Rattle.fleet_calls.specs.Calls.{HasGoal}
 
 module _ (names : Named) (site : BuiltSite) (count : ℕ) (all : NamesAll names site count) where
   goal_is : (request : Request) → IsDeclaredRequest names request → HasGoal site request

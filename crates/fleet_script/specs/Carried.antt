@@ -2,24 +2,10 @@
 use Rattle.std.specs.Prelude.{◌≡◌, ℕ, List, ◌++◌, map}
 use Rattle.std.specs.Option.{option_to_list}
 use Rattle.coordinator.specs.Books.{Book, state_of, with_entries}
-use Rattle.fleet_commands.specs.declared.command.Request.{Request}
-use Rattle.fleet_commands.specs.declared.command.Request.TheVariants as request
 use Rattle.fleet_model.specs.Calls.{Call, after_calls, answers, entries_of, turn}
 use Rattle.fleet_names.specs.Names.{Named}
 use Rattle.fleet_texts.specs.Answers.{answer_text}
 use Rattle.fleet_texts.specs.Words.{lines_text}
-use Rattle.site_map.specs.Built.{BuiltSite}
-use Rattle.site_map.specs.Goals.{IsGoal}
-
--- the goal of a request that has one is one of the site
-abbrev pub HasGoal : BuiltSite → Request → Type 0
-HasGoal site (request.Propose cells) = Unit {0}
-HasGoal site request.Retry = Unit {0}
-HasGoal site request.Cancel = Unit {0}
-HasGoal site request.Withdraw = Unit {0}
-HasGoal site (request.Replan goal) = IsGoal site goal
-HasGoal site (request.Report event) = Unit {0}
-HasGoal site request.Look = Unit {0}
 
 -- a call of robot r: the text gets its answer, and the journal its entry, where it has one
 pub record IsAnswered (names : Named) (r : ℕ) (call : Call) (old new : Book) (before after : List ℕ) : Type 0 where

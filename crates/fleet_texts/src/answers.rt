@@ -1,8 +1,9 @@
 //! The lines of answers, without their line feeds.
 
 ghost use Rattle.std.specs.Prelude.{◌≡◌, ◌++◌, [], ◌∷◌, codes, OnOk, OnErr};
+ghost use Rattle.fleet_calls.specs.Calls.{answer_of};
 ghost use Rattle.fleet_texts.specs.Words.{behind, spaced};
-ghost use Rattle.fleet_texts.specs.Answers.{span_text, proposed_text, propose_refused_text, retry_refused_text, cancel_refused_text, withdrawn_text, withdraw_refused_text, replan_refused_text, next_text, report_refused_text, event_look_words, pending_look_words, standing_words, look_text};
+ghost use Rattle.fleet_texts.specs.Answers.{answer_text, span_text, proposed_text, propose_refused_text, retry_refused_text, cancel_refused_text, withdrawn_text, withdraw_refused_text, replan_refused_text, next_text, report_refused_text, event_look_words, pending_look_words, standing_words, look_text};
 
 use crate::pushing::{push_number_word, push_text};
 use crate::words::{push_block, push_cell, push_kind};
@@ -12,11 +13,41 @@ use fleet_base::answers::{
 };
 use fleet_base::numbers::{EventNo, Span};
 use fleet_base::path::NoMemory;
+use fleet_calls::answer::Answer;
 use fleet_names::names::Names;
 use site_map::site::Site;
 
-/// Appends that a route was merged, with the numbers of its first and its last event.
-pub fn push_span(text: &mut Vec<u8>, span: &Span) -> Result<(), NoMemory>
+/// Appends the line of an answer, without its line feed. Where no memory is left, the text is given
+/// up: it is then empty.
+pub fn push_answer(
+    text: &mut Vec<u8>,
+    names: &Names,
+    site: &Site,
+    answer: &Answer,
+) -> Result<(), NoMemory>
+    ensures ok { OnOk result (text.new.items ≡ text.old.items ++ answer_text names.now site.now (answer_of answer.now)) }
+    ensures err { OnErr result (text.new.items ≡ []) }
+{
+    match answer {
+        Answer::Propose(Ok(proposed)) => push_proposed(text, names, site, proposed),
+        Answer::Propose(Err(refused)) => push_propose_refused(text, names, refused),
+        Answer::Retry(Ok(span)) => push_span(text, span),
+        Answer::Retry(Err(refused)) => push_retry_refused(text, names, site, refused),
+        Answer::Cancel(Ok(())) => push_canceled(text),
+        Answer::Cancel(Err(refused)) => push_cancel_refused(text, refused),
+        Answer::Withdraw(Ok(withdrawn)) => push_withdrawn(text, names, withdrawn),
+        Answer::Withdraw(Err(refused)) => push_withdraw_refused(text, refused),
+        Answer::Replan(Ok(span)) => push_span(text, span),
+        Answer::Replan(Err(refused)) => push_replan_refused(text, refused),
+        Answer::Report(Ok(())) => push_reported(text),
+        Answer::Report(Err(refused)) => push_report_refused(text, refused),
+        Answer::Look(Ok(look)) => push_look(text, names, site, look),
+        Answer::Look(Err(_)) => push_text(text, b"refused robot"),
+    }
+}
+
+// Appends that a route was merged, with the numbers of its first and its last event.
+fn push_span(text: &mut Vec<u8>, span: &Span) -> Result<(), NoMemory>
     ensures ok { OnOk result (text.new.items ≡ text.old.items ++ span_text span.now) }
     ensures err { OnErr result (text.new.items ≡ []) }
 {
@@ -25,8 +56,8 @@ pub fn push_span(text: &mut Vec<u8>, span: &Span) -> Result<(), NoMemory>
     push_number_word(text, span.last.0)
 }
 
-/// Appends what became of a proposed route.
-pub fn push_proposed(
+// Appends what became of a proposed route.
+fn push_proposed(
     text: &mut Vec<u8>,
     names: &Names,
     site: &Site,
@@ -44,8 +75,8 @@ pub fn push_proposed(
     }
 }
 
-/// Appends why a proposal is refused.
-pub fn push_propose_refused(
+// Appends why a proposal is refused.
+fn push_propose_refused(
     text: &mut Vec<u8>,
     names: &Names,
     refused: &ProposeRefused,
@@ -75,8 +106,8 @@ pub fn push_propose_refused(
     }
 }
 
-/// Appends why a retry is refused.
-pub fn push_retry_refused(
+// Appends why a retry is refused.
+fn push_retry_refused(
     text: &mut Vec<u8>,
     names: &Names,
     site: &Site,
@@ -97,16 +128,16 @@ pub fn push_retry_refused(
     }
 }
 
-/// Appends that a pending route was dropped.
-pub fn push_canceled(text: &mut Vec<u8>) -> Result<(), NoMemory>
+// Appends that a pending route was dropped.
+fn push_canceled(text: &mut Vec<u8>) -> Result<(), NoMemory>
     ensures ok { OnOk result (text.new.items ≡ text.old.items ++ codes "canceled") }
     ensures err { OnErr result (text.new.items ≡ []) }
 {
     push_text(text, b"canceled")
 }
 
-/// Appends why a cancel is refused.
-pub fn push_cancel_refused(text: &mut Vec<u8>, refused: &CancelRefused) -> Result<(), NoMemory>
+// Appends why a cancel is refused.
+fn push_cancel_refused(text: &mut Vec<u8>, refused: &CancelRefused) -> Result<(), NoMemory>
     ensures ok { OnOk result (text.new.items ≡ text.old.items ++ cancel_refused_text refused.now) }
     ensures err { OnErr result (text.new.items ≡ []) }
 {
@@ -116,12 +147,8 @@ pub fn push_cancel_refused(text: &mut Vec<u8>, refused: &CancelRefused) -> Resul
     }
 }
 
-/// Appends how many events a withdrawal removed, and the robot's new end.
-pub fn push_withdrawn(
-    text: &mut Vec<u8>,
-    names: &Names,
-    withdrawn: &Withdrawn,
-) -> Result<(), NoMemory>
+// Appends how many events a withdrawal removed, and the robot's new end.
+fn push_withdrawn(text: &mut Vec<u8>, names: &Names, withdrawn: &Withdrawn) -> Result<(), NoMemory>
     ensures ok { OnOk result (text.new.items ≡ text.old.items ++ withdrawn_text names.now withdrawn.now) }
     ensures err { OnErr result (text.new.items ≡ []) }
 {
@@ -130,8 +157,8 @@ pub fn push_withdrawn(
     push_cell(text, names, withdrawn.end)
 }
 
-/// Appends why a withdrawal is refused.
-pub fn push_withdraw_refused(text: &mut Vec<u8>, refused: &WithdrawRefused) -> Result<(), NoMemory>
+// Appends why a withdrawal is refused.
+fn push_withdraw_refused(text: &mut Vec<u8>, refused: &WithdrawRefused) -> Result<(), NoMemory>
     ensures ok { OnOk result (text.new.items ≡ text.old.items ++ withdraw_refused_text refused.now) }
     ensures err { OnErr result (text.new.items ≡ []) }
 {
@@ -141,8 +168,8 @@ pub fn push_withdraw_refused(text: &mut Vec<u8>, refused: &WithdrawRefused) -> R
     }
 }
 
-/// Appends why a replan is refused.
-pub fn push_replan_refused(text: &mut Vec<u8>, refused: &ReplanRefused) -> Result<(), NoMemory>
+// Appends why a replan is refused.
+fn push_replan_refused(text: &mut Vec<u8>, refused: &ReplanRefused) -> Result<(), NoMemory>
     ensures ok { OnOk result (text.new.items ≡ text.old.items ++ replan_refused_text refused.now) }
     ensures err { OnErr result (text.new.items ≡ []) }
 {
@@ -156,16 +183,16 @@ pub fn push_replan_refused(text: &mut Vec<u8>, refused: &ReplanRefused) -> Resul
     }
 }
 
-/// Appends that an event was reported.
-pub fn push_reported(text: &mut Vec<u8>) -> Result<(), NoMemory>
+// Appends that an event was reported.
+fn push_reported(text: &mut Vec<u8>) -> Result<(), NoMemory>
     ensures ok { OnOk result (text.new.items ≡ text.old.items ++ codes "reported") }
     ensures err { OnErr result (text.new.items ≡ []) }
 {
     push_text(text, b"reported")
 }
 
-/// Appends why a report is refused.
-pub fn push_report_refused(text: &mut Vec<u8>, refused: &ReportRefused) -> Result<(), NoMemory>
+// Appends why a report is refused.
+fn push_report_refused(text: &mut Vec<u8>, refused: &ReportRefused) -> Result<(), NoMemory>
     ensures ok { OnOk result (text.new.items ≡ text.old.items ++ report_refused_text refused.now) }
     ensures err { OnErr result (text.new.items ≡ []) }
 {
@@ -193,14 +220,9 @@ fn push_next(text: &mut Vec<u8>, next: Option<EventNo>) -> Result<(), NoMemory>
     }
 }
 
-/// Appends what a look shows.
+// Appends what a look shows.
 #[tactic(auto, unfolding(crate::specs::Answers::look_text))]
-pub fn push_look(
-    text: &mut Vec<u8>,
-    names: &Names,
-    site: &Site,
-    look: &Look,
-) -> Result<(), NoMemory>
+fn push_look(text: &mut Vec<u8>, names: &Names, site: &Site, look: &Look) -> Result<(), NoMemory>
     ensures ok { OnOk result (text.new.items ≡ text.old.items ++ look_text names.now site.now look.now) }
     ensures err { OnErr result (text.new.items ≡ []) }
 {

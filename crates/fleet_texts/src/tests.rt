@@ -1,9 +1,5 @@
 // Each public call once, with ample memory.
-use crate::answers::{
-    push_cancel_refused, push_canceled, push_look, push_propose_refused, push_proposed,
-    push_replan_refused, push_report_refused, push_reported, push_retry_refused, push_span,
-    push_withdraw_refused, push_withdrawn,
-};
+use crate::answers::push_answer;
 use crate::journal::{print_entry, print_journal};
 use crate::pushing::{push_decimal, push_text};
 use crate::state::{
@@ -12,12 +8,13 @@ use crate::state::{
 use crate::words::push_claim;
 use fleet_base::answers::{
     Block, CancelRefused, EventLook, Look, PendingLook, ProposeRefused, Proposed, ReplanRefused,
-    ReportRefused, RetryRefused, WithdrawRefused, Withdrawn,
+    ReportRefused, RetryRefused, UnknownRobot, WithdrawRefused, Withdrawn,
 };
 use fleet_base::entries::{Act, Entry};
 use fleet_base::numbers::{CellNo, ClaimNo, Event, EventNo, Kind, RobotNo, Span};
 use fleet_base::path::{NoMemory, Path};
 use fleet_base::robot_list::RobotList;
+use fleet_calls::answer::Answer;
 use fleet_names::names::{NameRefused, Names};
 use fleet_names::thing::Thing;
 use site_map::builder::SiteBuilder;
@@ -192,7 +189,21 @@ fn a_state_has_its_lines(rt: HostRuntime) -> Result<(), Fail> {
     Ok(())
 }
 
-// Two looks, one after the other.
+// Appends the lines of answers, with a line feed behind each.
+fn push_answers(
+    text: &mut Vec<u8>,
+    names: &Names,
+    site: &Site,
+    answers: &[Answer],
+) -> Result<(), NoMemory> {
+    for answer in answers {
+        push_answer(text, names, site, answer)?;
+        push_text(text, b"\n")?;
+    }
+    Ok(())
+}
+
+// The lines of looks, one after the other.
 fn push_looks(text: &mut Vec<u8>, names: &Names, site: &Site) -> Result<(), NoMemory> {
     let event = EventNo(10);
     let waiting = Look {
@@ -219,10 +230,14 @@ fn push_looks(text: &mut Vec<u8>, names: &Names, site: &Site) -> Result<(), NoMe
         ..waiting
     };
     for look in [waiting, ready, nothing] {
-        push_look(text, names, site, &look)?;
-        push_text(text, b"\n")?;
+        push_seen(text, names, site, look)?;
     }
     Ok(())
+}
+
+// The line of a look.
+fn push_seen(text: &mut Vec<u8>, names: &Names, site: &Site, look: Look) -> Result<(), NoMemory> {
+    push_answers(text, names, site, &[Answer::Look(Ok(look))])
 }
 
 const LOOKS: &str =
@@ -243,16 +258,20 @@ fn push_accepted(text: &mut Vec<u8>, names: &Names, site: &Site) -> Result<(), N
         first: EventNo(1),
         last: EventNo(6),
     };
-    push_span(text, &span)?;
-    push_text(text, b"\n")?;
-    push_proposed(text, names, site, &Proposed::Deferred(block()))?;
-    push_text(text, b"\n")?;
-    push_canceled(text)?;
-    push_text(text, b"\n")?;
-    push_withdrawn(text, names, &Withdrawn { removed: 6, end: A })?;
-    push_text(text, b"\n")?;
-    push_reported(text)
+    let answers = [
+        Answer::Propose(Ok(Proposed::Merged(span))),
+        Answer::Propose(Ok(Proposed::Deferred(block()))),
+        Answer::Retry(Ok(span)),
+        Answer::Cancel(Ok(())),
+        Answer::Withdraw(Ok(Withdrawn { removed: 6, end: A })),
+        Answer::Replan(Ok(span)),
+        Answer::Report(Ok(())),
+    ];
+    push_answers(text, names, site, &answers)
 }
+
+const ACCEPTED: &str =
+    "merged 1 6\ndeferred x:1 r1 cycle r2 r1\nmerged 1 6\ncanceled\nwithdrawn 6 a\nmerged 1 6\nreported\n";
 
 #[test]
 fn accepted_calls_have_their_lines(rt: HostRuntime) -> Result<(), Fail> {
@@ -260,60 +279,41 @@ fn accepted_calls_have_their_lines(rt: HostRuntime) -> Result<(), Fail> {
     let site = site(rt.alloc()).map_err(|_| "site")?;
     let mut text = Vec::new(rt.alloc());
     push_accepted(&mut text, &names, &site)?;
-    let wanted = "merged 1 6\ndeferred x:1 r1 cycle r2 r1\ncanceled\nwithdrawn 6 a\nreported";
-    assert!(rt; text.as_slice() == wanted.as_bytes());
+    assert!(rt; text.as_slice() == ACCEPTED.as_bytes());
     Ok(())
 }
 
-fn push_refused_proposals(text: &mut Vec<u8>, names: &Names) -> Result<(), NoMemory> {
-    let refusals = [
-        ProposeRefused::HasPending,
-        ProposeRefused::Short,
-        ProposeRefused::TooLong,
-        ProposeRefused::NoLink { at: 1 },
-        ProposeRefused::BadStart { end: A },
-        ProposeRefused::Full,
-    ];
-    for refused in refusals {
-        push_propose_refused(text, names, &refused)?;
-        push_text(text, b"\n")?;
-    }
-    Ok(())
-}
-
-fn push_refused_reports(text: &mut Vec<u8>) -> Result<(), NoMemory> {
+fn push_refusals(text: &mut Vec<u8>, names: &Names, site: &Site) -> Result<(), NoMemory> {
     let next = Some(EventNo(1));
-    push_report_refused(text, &ReportRefused::NotNext { next })?;
-    push_text(text, b"\n")?;
-    push_report_refused(text, &ReportRefused::NotNext { next: None })?;
-    push_text(text, b"\n")?;
-    push_report_refused(text, &ReportRefused::Early { on: EventNo(6) })?;
-    push_text(text, b"\n")
-}
-
-fn push_other_refusals(text: &mut Vec<u8>, names: &Names, site: &Site) -> Result<(), NoMemory> {
-    push_retry_refused(text, names, site, &RetryRefused::StillDeferred(block()))?;
-    push_text(text, b"\n")?;
-    push_cancel_refused(text, &CancelRefused::NoPending)?;
-    push_text(text, b"\n")?;
-    push_withdraw_refused(text, &WithdrawRefused::Nothing)?;
-    push_text(text, b"\n")?;
-    push_replan_refused(text, &ReplanRefused::AtGoal)?;
-    push_text(text, b"\n")?;
-    push_replan_refused(text, &ReplanRefused::NoDetour)
+    let answers = [
+        Answer::Propose(Err(ProposeRefused::HasPending)),
+        Answer::Propose(Err(ProposeRefused::Short)),
+        Answer::Propose(Err(ProposeRefused::TooLong)),
+        Answer::Propose(Err(ProposeRefused::NoLink { at: 1 })),
+        Answer::Propose(Err(ProposeRefused::BadStart { end: A })),
+        Answer::Propose(Err(ProposeRefused::Full)),
+        Answer::Report(Err(ReportRefused::NotNext { next })),
+        Answer::Report(Err(ReportRefused::NotNext { next: None })),
+        Answer::Report(Err(ReportRefused::Early { on: EventNo(6) })),
+        Answer::Retry(Err(RetryRefused::StillDeferred(block()))),
+        Answer::Cancel(Err(CancelRefused::NoPending)),
+        Answer::Withdraw(Err(WithdrawRefused::Nothing)),
+        Answer::Replan(Err(ReplanRefused::AtGoal)),
+        Answer::Replan(Err(ReplanRefused::NoDetour)),
+        Answer::Look(Err(UnknownRobot)),
+    ];
+    push_answers(text, names, site, &answers)
 }
 
 const REFUSALS: &str =
-    "refused pending\nrefused short\nrefused long\nrefused no link 1\nrefused start a\nrefused full\nrefused next 1\nrefused next none\nrefused early 6\nstill x:1 r1 cycle r2 r1\nrefused no pending\nrefused nothing\nrefused at goal\nrefused no detour";
+    "refused pending\nrefused short\nrefused long\nrefused no link 1\nrefused start a\nrefused full\nrefused next 1\nrefused next none\nrefused early 6\nstill x:1 r1 cycle r2 r1\nrefused no pending\nrefused nothing\nrefused at goal\nrefused no detour\nrefused robot\n";
 
 #[test]
 fn refusals_have_their_lines(rt: HostRuntime) -> Result<(), Fail> {
     let names = names(rt.alloc()).map_err(|_| "names")?;
     let site = site(rt.alloc()).map_err(|_| "site")?;
     let mut text = Vec::new(rt.alloc());
-    push_refused_proposals(&mut text, &names)?;
-    push_refused_reports(&mut text)?;
-    push_other_refusals(&mut text, &names, &site)?;
+    push_refusals(&mut text, &names, &site)?;
     assert!(rt; text.as_slice() == REFUSALS.as_bytes());
     Ok(())
 }

@@ -1,4 +1,4 @@
-use Rattle.std.proofs.Common.{◌≡◌, sym, subst, ◌∙◌}
+use Rattle.std.proofs.Common.{sym, subst, ◌∙◌}
 use Rattle.fleet_model.specs.Sites.{needs}
 use Rattle.fleet_base.specs.ClaimSets.{IsSetOf}
 use Rattle.site_map.specs.Claims.{site_of}

@@ -5,7 +5,7 @@ use Rattle.coordinator.proofs.Leaving.{leaves}
 use Rattle.fleet_commands.specs.Commands.{call_of}
 use Rattle.fleet_commands.specs.declared.command.Command.{Command}
 use Rattle.fleet_model.specs.States.{State}
-use Rattle.fleet_script.specs.Carried.{HasGoal}
+use Rattle.fleet_calls.specs.Calls.{HasGoal}
 use Rattle.fleet_script.proofs.Endings.{all_carried, carried, in_the_end}
 use Rattle.fleet_script.proofs.carrying.carry_out.Goals as goal
 

@@ -7,7 +7,7 @@ use Rattle.scenario.specs.Scenarios.{ScenarioValue}
 use Rattle.site_map.specs.Built.{BuiltSite}
 use Rattle.site_map.specs.Claims.{site_of}
 use Rattle.fleet_texts.specs.Texts.{journal_text}
-use Rattle.fleet_script.specs.Carried.{HasGoal}
+use Rattle.fleet_calls.specs.Calls.{HasGoal}
 use Rattle.fleet_script.specs.Script.{printed}
 use Rattle.fleet_script.specs.Stops.{script_value}
 use Rattle.fleet_script.proofs.Goals.{goals_are}

@@ -1,5 +1,4 @@
 use Rattle.std.proofs.Common.{◌≡◌, length, ap, subst, ◌∙◌}
-use Rattle.fleet_base.specs.declared.numbers.ClaimGroup.{ClaimGroup}
 use Rattle.fleet_model.specs.Sites.{Site}
 use Rattle.fleet_model.specs.Plans.{unfinished}
 use Rattle.site_map.specs.Claims.{site_of}

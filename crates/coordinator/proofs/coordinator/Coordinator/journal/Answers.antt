@@ -1,4 +1,4 @@
-use Rattle.std.proofs.Common.{subst, map, None}
+use Rattle.std.proofs.Common.{subst}
 use Rattle.fleet_model.specs.Good.{IsGood}
 use Rattle.fleet_model.proofs.GoodStates.{opening_good}
 use Rattle.site_map.specs.Claims.{site_of}

@@ -1,4 +1,4 @@
-use Rattle.std.proofs.Common.{◌≡◌, map, None, refl, sym, subst, ◌∙◌, take}
+use Rattle.std.proofs.Common.{refl, sym, subst, ◌∙◌, take}
 use Rattle.fleet_model.specs.Journals.{state_after}
 use Rattle.fleet_model.specs.Segments.{StandAlone, entries_between, segment_end}
 use Rattle.fleet_model.proofs.GoodStates.{opening_good}
