@@ -4,6 +4,7 @@ use Rattle.std.specs.Prelude.{ℕ, if◌then◌else◌, List, [], ◌∷◌, map
 use Rattle.std.specs.declared.option.Option.{Option}
 use Rattle.std.specs.Str.{bytes_eq}
 use Rattle.form_base.specs.Forms.{FormSpec}
+use Rattle.fleet_assign.specs.Form.{assign_form}
 use Rattle.fleet_check.specs.Check.{check_form}
 use Rattle.fleet_replay.specs.Form.{replay_form}
 use Rattle.fleet_route.specs.Form.{route_form}
@@ -17,6 +18,7 @@ pub data Form : Type 0 where
   Route : List ℕ → List ℕ → Form
   Script : Form
   Replay : Form
+  Assign : Form
 
 -- a form without where its words lie in memory
 abbrev pub form_view : declared.Form → Form
@@ -24,6 +26,7 @@ form_view variants.Check = Check
 form_view (variants.Route from to) = Route from.now to.now
 form_view variants.Script = Script
 form_view variants.Replay = Replay
+form_view variants.Assign = Assign
 
 -- the form that one word is
 abbrev pub one_word : List ℕ → Option Form
@@ -31,7 +34,8 @@ one_word word =
     if bytes_eq word (codes "check") then Some Check
     else (if bytes_eq word (codes "script") then Some Script
     else (if bytes_eq word (codes "replay") then Some Replay
-    else None))
+    else (if bytes_eq word (codes "assign") then Some Assign
+    else None)))
 
 -- the form that three words are: `route FROM TO`, where the last two may be any words
 abbrev pub three_words : List ℕ → List ℕ → List ℕ → Option Form
@@ -49,7 +53,7 @@ form_asked words = form_of (map (λ word. word.now) words)
 
 -- what is written where the words are no form
 abbrev pub usage_text : List ℕ
-usage_text = codes "usage: fleet check | route FROM TO | script | replay\n"
+usage_text = codes "usage: fleet check | route FROM TO | script | replay | assign\n"
 
 -- what each form is
 abbrev pub spec_of : Form → FormSpec
@@ -57,3 +61,4 @@ spec_of Check = check_form
 spec_of (Route from to) = route_form from to
 spec_of Script = script_form
 spec_of Replay = replay_form
+spec_of Assign = assign_form

@@ -14,6 +14,8 @@ pub(crate) enum Form<'a> {
     Script,
     // A scenario with a journal behind it, replayed.
     Replay,
+    // Which robot should go to which first goal.
+    Assign,
 }
 
 // The form that the words are, if they are one.
@@ -34,6 +36,7 @@ fn from_one(word: &str) -> Option<Form<'static>>
         "check" => Some(Form::Check),
         "script" => Some(Form::Script),
         "replay" => Some(Form::Replay),
+        "assign" => Some(Form::Assign),
         _ => None,
     }
 }
@@ -54,7 +57,7 @@ impl Form<'_> {
         ensures small { IfSome result (λ limit. limit < 2 ^ 32 - 1) }
     {
         match self {
-            Form::Check | Form::Route { .. } | Form::Script => Some(4_194_304),
+            Form::Check | Form::Route { .. } | Form::Script | Form::Assign => Some(4_194_304),
             Form::Replay => Some(67_108_864),
         }
     }

@@ -4,6 +4,7 @@ ghost use Rattle.form_base.specs.Stops.{Answers};
 ghost use Rattle.fleet_cli.specs.Forms.{form_view, spec_of};
 
 use crate::form::Form;
+use fleet_assign::form::assign_form;
 use fleet_check::check::check;
 use fleet_replay::form::replay_form;
 use fleet_route::form::route_form;
@@ -21,5 +22,6 @@ pub(crate) fn output(alloc: Global, form: Form<'_>, input: &[u8]) -> Result<Repo
         Form::Route { from, to } => route_form(alloc, from, to, input),
         Form::Script => script_form(alloc, input),
         Form::Replay => replay_form(alloc, input),
+        Form::Assign => assign_form(alloc, input),
     }
 }

@@ -72,7 +72,7 @@ fn usage(alloc: Global) -> Result<Reply, NoMemory>
     let mut text = Vec::new(alloc);
     push_bytes(
         &mut text,
-        b"usage: fleet check | route FROM TO | script | replay\n",
+        b"usage: fleet check | route FROM TO | script | replay | assign\n",
     )?;
     Ok(Reply { status: 2, text })
 }

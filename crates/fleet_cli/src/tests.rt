@@ -5,7 +5,7 @@ use std::alloc::Global;
 use std::process::Abort;
 use std::test::Fail;
 
-const USAGE: &[u8] = b"usage: fleet check | route FROM TO | script | replay\n";
+const USAGE: &[u8] = b"usage: fleet check | route FROM TO | script | replay | assign\n";
 
 const ONE_STEP: &[u8] = b"fleet 1\ncell a b\nlane a b 1\nrobot r1 a\nend\npropose r1 a b\n";
 
@@ -117,6 +117,22 @@ fn replay_tells_the_state_or_the_fault(rt: HostRuntime) -> Result<(), Fail> {
     ];
     for (input, status, text) in rows {
         check_told(&rt, rt.alloc(), &["replay"], input, status, text)?;
+    }
+    Ok(())
+}
+
+#[test]
+fn assign_tells_the_assignment_or_the_fault(rt: HostRuntime) -> Result<(), Fail> {
+    let rows: [(&[u8], u8, &[u8]); 2] = [
+        (
+            b"fleet 1\ncell a b\nlane a b 1\nrobot r1 a\nmission r1\nvisit b\ndone\nend\n",
+            0,
+            b"total 1\nrobot r1 b 1\nrow r1 0\ncolumn 0 1\n",
+        ),
+        (ONE_STEP, 3, b"refused line 6 S21\n"),
+    ];
+    for (input, status, text) in rows {
+        check_told(&rt, rt.alloc(), &["assign"], input, status, text)?;
     }
     Ok(())
 }

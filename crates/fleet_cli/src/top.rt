@@ -6,9 +6,10 @@ ghost use Rattle.fleet_io.specs.Bytes.{Stays};
 ghost use Rattle.form_base.specs.Forms.{status_of};
 ghost use Rattle.form_base.specs.Runs.{TellsDue, TellsFault, TellsReport, TellsText, TellsWhole};
 ghost use Rattle.form_base.specs.declared.report.Ended.{Ended};
+ghost use Rattle.fleet_assign.specs.Form.{IsLeastText};
 ghost use Rattle.fleet_replay.specs.Form.{IsSoundReplay};
 ghost use Rattle.fleet_script.specs.Form.{IsSoundScript};
-ghost use Rattle.fleet_cli.specs.Forms.{Form, Replay, Script, form_asked, spec_of};
+ghost use Rattle.fleet_cli.specs.Forms.{Assign, Form, Replay, Script, form_asked, spec_of};
 ghost use Rattle.fleet_cli.specs.Runs.{HasStatus, IsDueFor, RunsFor};
 
 use crate::reply::{NoReply, ready};
@@ -74,6 +75,12 @@ pub fn fleet<S: Source, K: Sink>(alloc: Global, words: &[&str], source: &mut S, 
     ensures replayed { (input : List ℕ) → form_asked words.now ≡ Some Replay →
         S.left source.old ≡ Some input → result ≡ 0 →
         TellsText (IsSoundReplay input) (K.written sink.old) (K.written sink.new) }
+
+    // Status 0 of `assign`: what went out gives each robot a column of its own, a task or none, and
+    // no way to do so has a smaller total.
+    ensures assigned { (input : List ℕ) → form_asked words.now ≡ Some Assign →
+        S.left source.old ≡ Some input → result ≡ 0 →
+        TellsText (IsLeastText input) (K.written sink.old) (K.written sink.new) }
 
     // Want of memory and a fault of the source write nothing.
     ensures silent { (result ≡ 1) ⊎ (result ≡ 5) → Stays (K.written sink.old) (K.written sink.new) }

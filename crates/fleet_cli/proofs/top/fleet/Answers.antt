@@ -2,7 +2,7 @@
 use Rattle.std.proofs.Common.{arith}
 use Rattle.form_base.specs.declared.report.Ended.TheVariants.{Done}
 use Rattle.form_base.proofs.Causes.{told}
-use Rattle.fleet_cli.specs.Forms.{Replay, Script, form_asked}
+use Rattle.fleet_cli.specs.Forms.{Assign, Replay, Script, form_asked}
 use Rattle.fleet_cli.proofs.Words.{asked_refused, asked_reported, ends_usage, ends_whole, in_range, told_unknown}
 use Rattle.fleet_cli.proofs.top.fleet.Goals as goal
 
@@ -31,6 +31,9 @@ returns-clause-sound g c = λ input asked is zero. asked_reported (form_asked c.
 
 pub returns-clause-replayed : goal.returns-clause-replayed
 returns-clause-replayed g c = λ input asked is zero. asked_reported (form_asked c.args.words.now) c.run.result Replay input Done asked is zero c.run.ensures.answer
+
+pub returns-clause-assigned : goal.returns-clause-assigned
+returns-clause-assigned g c = λ input asked is zero. asked_reported (form_asked c.args.words.now) c.run.result Assign input Done asked is zero c.run.ensures.answer
 
 pub returns-clause-range : goal.returns-clause-range
 returns-clause-range g c = in_range (form_asked c.args.words.now) c.run.result c.run.ensures.status

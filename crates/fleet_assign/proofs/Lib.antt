@@ -1,0 +1,3 @@
+pub mod RouteCosts
+pub mod Columns
+pub mod Assigned
