@@ -4,5 +4,3 @@
 
 pub mod laws;
 pub mod starts;
-#[cfg(test)]
-mod tests;

@@ -1,8 +1,6 @@
 //! Which claims conflict with a claim, and between which numbers all of them are.
 #![tactic(auto)]
 
-#[cfg(test)]
-mod tests;
 
 ghost use Rattle.std.specs.Prelude.{◌≡◌, ℕ, ◌+◌, ◌<◌, ◌≤◌, true, length, nat_eq, slice_get, Some, IfOk, MatchOption};
 ghost use Rattle.std.specs.HashMap.{get};

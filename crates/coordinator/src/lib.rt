@@ -17,6 +17,4 @@ mod resuming;
 mod retry;
 mod shut;
 mod tables;
-#[cfg(test)]
-mod tests;
 mod withdraw;

@@ -4,8 +4,6 @@
 mod checker;
 mod rows;
 mod search;
-#[cfg(test)]
-mod tests;
 
 pub use checker::check_cycle;
 pub use search::cycle_through;

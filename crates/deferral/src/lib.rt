@@ -8,8 +8,6 @@ mod laws;
 mod matrix;
 mod pending;
 mod tally;
-#[cfg(test)]
-mod tests;
 
 pub use deferrals::Deferrals;
 pub use laws::{blockers_are_those_of_sites, deferrals_are_those_of_states};

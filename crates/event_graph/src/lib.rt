@@ -5,5 +5,3 @@ pub mod graph;
 pub mod laws;
 mod reach;
 mod store;
-#[cfg(test)]
-mod tests;

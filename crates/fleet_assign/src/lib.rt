@@ -8,5 +8,3 @@ mod costs;
 pub mod form;
 mod tasks;
 mod telling;
-#[cfg(test)]
-mod tests;

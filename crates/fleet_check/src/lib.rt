@@ -4,5 +4,3 @@
 #![tactic(auto)]
 
 pub mod check;
-#[cfg(test)]
-mod tests;

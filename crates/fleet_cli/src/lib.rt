@@ -8,8 +8,6 @@
 mod form;
 mod output;
 mod reply;
-#[cfg(test)]
-mod tests;
 mod top;
 
 pub use form_base::{Ended, Fault};

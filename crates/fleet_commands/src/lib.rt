@@ -8,7 +8,5 @@ mod line;
 pub mod read;
 pub mod refused;
 pub mod samples;
-#[cfg(test)]
-mod tests;
 mod used_names;
 mod words;

@@ -4,6 +4,4 @@
 pub mod names;
 mod places;
 pub mod samples;
-#[cfg(test)]
-mod tests;
 pub mod thing;

@@ -12,5 +12,3 @@ pub mod laws;
 pub mod refused;
 pub mod replay;
 mod tail;
-#[cfg(test)]
-mod tests;

@@ -10,5 +10,3 @@ mod named;
 pub mod refused;
 pub mod route;
 mod telling;
-#[cfg(test)]
-mod tests;

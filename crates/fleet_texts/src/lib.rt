@@ -9,6 +9,4 @@ pub mod journal;
 pub mod pushing;
 pub mod samples;
 pub mod state;
-#[cfg(test)]
-mod tests;
 pub mod words;

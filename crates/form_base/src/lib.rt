@@ -9,8 +9,6 @@ mod fault;
 mod reading;
 mod reply;
 mod report;
-#[cfg(test)]
-mod tests;
 
 pub use fault::{Fault, Stop};
 pub use reading::read_input;

@@ -6,5 +6,3 @@ mod entry;
 pub mod laws;
 pub mod refused;
 pub mod replay;
-#[cfg(test)]
-mod tests;

@@ -2,6 +2,4 @@
 #![tactic(auto)]
 
 pub mod merging;
-#[cfg(test)]
-mod tests;
 pub mod withdrawal;

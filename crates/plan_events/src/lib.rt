@@ -11,5 +11,3 @@ pub mod rests;
 pub mod shape;
 mod spots;
 mod steps;
-#[cfg(test)]
-mod tests;

@@ -4,6 +4,4 @@
 pub mod laws;
 mod lines;
 pub mod reading;
-#[cfg(test)]
-mod tests;
 mod words;

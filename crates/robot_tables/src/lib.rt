@@ -3,5 +3,3 @@
 
 pub mod laws;
 pub mod tables;
-#[cfg(test)]
-mod tests;

@@ -5,5 +5,3 @@
 pub mod policy;
 pub mod routes;
 pub mod serving;
-#[cfg(test)]
-mod tests;

@@ -11,5 +11,3 @@ pub mod laws;
 pub mod refused;
 pub mod route;
 mod search;
-#[cfg(test)]
-mod tests;

@@ -5,5 +5,3 @@
 #![tactic(auto)]
 
 pub mod open;
-#[cfg(test)]
-mod tests;

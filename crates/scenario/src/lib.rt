@@ -6,5 +6,3 @@ mod lines;
 pub mod missions;
 pub mod print;
 pub mod scenario;
-#[cfg(test)]
-mod tests;

@@ -7,5 +7,3 @@ mod grid;
 mod missions;
 mod naming;
 mod sites;
-#[cfg(test)]
-mod tests;

@@ -3,6 +3,4 @@
 
 pub mod laws;
 pub mod samples;
-#[cfg(test)]
-mod tests;
 pub mod values;

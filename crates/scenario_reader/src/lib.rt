@@ -11,6 +11,4 @@ pub mod read;
 mod reader;
 pub mod samples;
 pub mod stop;
-#[cfg(test)]
-mod tests;
 mod words;

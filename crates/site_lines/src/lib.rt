@@ -5,6 +5,4 @@ pub mod fault;
 pub mod line;
 pub mod number;
 pub mod samples;
-#[cfg(test)]
-mod tests;
 pub mod word;

@@ -11,5 +11,3 @@ mod numbering;
 mod places;
 pub mod refused;
 pub mod site;
-#[cfg(test)]
-mod tests;

@@ -68,8 +68,8 @@ impl Costs {
         self.costs[(64 * row + column) as usize]
     }
 
-    // The number of rows, which is that of the columns.
-    pub(crate) fn size(&self) -> u32
+    /// The number of rows, which is that of the columns, at least 1 and at most [`MAX_SIZE`].
+    pub fn size(&self) -> u32
         ensures sized { result ≡ self.now.size }
         ensures some { 1 ≤ result }
         ensures few { result ≤ MAX_SIZE }

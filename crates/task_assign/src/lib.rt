@@ -11,8 +11,6 @@ mod least_total;
 mod numbers;
 mod pairing;
 mod search;
-#[cfg(test)]
-mod tests;
 mod tree;
 
 pub use assignment::Assignment;
