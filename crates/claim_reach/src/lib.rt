@@ -1,7 +1,6 @@
 //! Which claims conflict with a claim, and between which numbers all of them are.
 #![tactic(auto)]
 
-
 ghost use Rattle.std.specs.Prelude.{◌≡◌, ℕ, ◌+◌, ◌<◌, ◌≤◌, true, length, nat_eq, slice_get, Some, IfOk, MatchOption};
 ghost use Rattle.std.specs.HashMap.{get};
 ghost use Rattle.fleet_base.specs.declared.numbers.ClaimNo.{ClaimNo};
