@@ -97,19 +97,7 @@ module _ (site : BuiltSite) (goal : Goal) (cells avoid : set.FinSet nat_cmp) (ce
   nothing_avoided = ap (λ s. has s) none ∙ has_none
 
   -- its labels are the costs of the routes
-  pub labels_are : (from : CellNo) (route : LabelledRoute) → IsLeastWithLabels (site_of site) (has cells) (has avoid) from route → (c : CellNo) → label_at route.labels c ≡ route_cost site goal c
-  labels_are from route is c =
-      is.labels c
-      ∙ ap (λ (g : CellNo → Bool). label_of (site_of site) g (has avoid) c) (fun_ext cells_are)
+  pub labels_are : (c : CellNo) → label_of (site_of site) (has cells) (has avoid) c ≡ route_cost site goal c
+  labels_are c =
+      ap (λ (g : CellNo → Bool). label_of (site_of site) g (has avoid) c) (fun_ext cells_are)
       ∙ ap (λ (a : CellNo → Bool). label_of (site_of site) (has_cell (goal_cells site goal)) a c) nothing_avoided
-
-  pub labels_low : IsValidSite site → IsSite (site_of site) → (from : CellNo) (route : LabelledRoute) → IsLeastWithLabels (site_of site) (has cells) (has avoid) from route → (c : CellNo) → IfSome (label_at route.labels c) (λ n. n < 1000000000000)
-  labels_low valid is_site from route is c = subst (λ o. IfSome o (λ n. n < 1000000000000)) (sym (labels_are from route is c)) (route_low site valid is_site goal c)
-
-  -- a cell of the goal reaches it
-  pub goal_reached : IsSite (site_of site) → (from : CellNo) → has_cell (goal_cells site goal) from ≡ true → least_route (site_of site) (has cells) (has avoid) from ≡ None → ⊥
-  goal_reached is_site from inside lacks =
-      let free : not (has avoid from) ≡ true = ap (λ (a : CellNo → Bool). not (a from)) nothing_avoided in
-      let leads : leads_to (has cells) (has avoid) (from ∷ []) ≡ true =
-      and_from (has cells from) (list_all (λ b. not (has avoid b)) (from ∷ [])) (cells_are from ∙ inside) (and_from (not (has avoid from)) true free refl) in
-      least_route_none (site_of site) (has cells) (has avoid) from is_site lacks (from ∷ []) refl tt leads

@@ -6,8 +6,9 @@ use fleet_base::numbers::CellNo;
 use fleet_base::path::{NoMemory, Path};
 use route_plan::cell_set::CellSet;
 use route_plan::checker::check_route;
-use route_plan::finder::least_route;
+use route_plan::finder::{labels_to, least_route};
 use route_plan::goals::goal_set;
+use route_plan::incoming::Incoming;
 use route_plan::refused::RouteRefused;
 use route_plan::route::Route;
 use site_map::builder::SiteBuilder;
@@ -101,6 +102,20 @@ fn each_changed_part_is_refused(rt: HostRuntime) -> Result<(), Fail> {
     let more = [Some(2), Some(1), Some(1), Some(0), Some(0)];
     let route = route_of([0, 1, 3], 2, &more, rt.alloc())?;
     assert!(rt; !check_route(&site, CellNo(0), &only(3), &CellSet::new(), &route));
+    Ok(())
+}
+
+#[test]
+fn labels_are_told_for_each_goal(rt: HostRuntime) -> Result<(), Fail> {
+    let site = square(rt.alloc())?;
+    let incoming = Incoming::of(&site, rt.alloc())?;
+    let labels = labels_to(&site, &incoming, &only(3), &CellSet::new(), rt.alloc())?;
+    for number in 0..4u32 {
+        assert_eq!(rt; labels.label(CellNo(number)), LABELS[number as usize]);
+    }
+    let labels = labels_to(&site, &incoming, &only(1), &only(2), rt.alloc())?;
+    assert_eq!(rt; labels.label(CellNo(0)), Some(1));
+    assert_eq!(rt; labels.label(CellNo(2)), None);
     Ok(())
 }
 

@@ -59,8 +59,42 @@ impl Row {
     }
 }
 
+/// The links of a site, for each cell those that lead to it. Made once, they serve the search for the
+/// labels to any goal.
+#[derive(Drop)]
+pub struct Incoming {
+    rows: Vec<Row>,
+}
+
+impl Model for Incoming {
+    ghost use Rattle.std.specs.Prelude.{List};
+    ghost use Rattle.route_plan.specs.declared.incoming.Entry.{Entry};
+
+    ghost Value = { List (List Entry) };
+
+    ghost view = { λ i. i.rows.items };
+}
+
+impl Incoming {
+    /// Those of the site.
+    pub fn of(site: &Site, alloc: Global) -> Result<Self, AllocError>
+        ensures { IfOk result (AreIncoming (site_of site.now)) }
+    {
+        Ok(Incoming {
+            rows: rows_of(site, alloc)?,
+        })
+    }
+
+    // By the cells' numbers.
+    pub(crate) fn rows(&self) -> &[Row]
+        ensures { result.now ≡ self.now }
+    {
+        &self.rows
+    }
+}
+
 // For each cell the links that lead to it.
-pub(crate) fn incoming(site: &Site, alloc: Global) -> Result<Vec<Row>, AllocError>
+fn rows_of(site: &Site, alloc: Global) -> Result<Vec<Row>, AllocError>
     ensures { IfOk result (λ rows. AreIncoming (site_of site.now) rows.items) }
 {
     let count = site.cell_count();

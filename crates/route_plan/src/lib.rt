@@ -5,7 +5,7 @@ pub mod cell_set;
 pub mod checker;
 pub mod finder;
 pub mod goals;
-mod incoming;
+pub mod incoming;
 mod labels;
 pub mod laws;
 pub mod refused;

@@ -66,6 +66,30 @@ impl Route {
     }
 }
 
+/// For each cell of a site the least cost from it to a goal, where a walk leads there.
+#[derive(Drop)]
+pub struct Labels {
+    // By the cells' numbers.
+    pub(crate) labels: Vec<Option<u64>>,
+}
+
+impl Model for Labels {
+    ghost use Rattle.std.specs.Prelude.{ℕ, List, Option};
+
+    ghost Value = { List (Option ℕ) };
+
+    ghost view = { λ l. l.labels.items };
+}
+
+impl Labels {
+    /// The least cost from the cell to the goal; None where no walk leads there.
+    pub fn label(&self, cell: CellNo) -> Option<u64>
+        ensures { result ≡ label_at self.now cell }
+    {
+        label_in(&self.labels, cell)
+    }
+}
+
 // The label of a cell in a list of them; none past its end.
 pub(crate) fn label_in(labels: &[Option<u64>], cell: CellNo) -> Option<u64>
     ensures { result ≡ label_at labels.now cell }

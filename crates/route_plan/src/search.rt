@@ -12,7 +12,7 @@ ghost use Rattle.route_plan.specs.Incoming.{row_at, AreIncoming};
 ghost use Rattle.route_plan.specs.Search.{open_at, work, AreLow, IsBegun, IsLowered, IsSearch, IsSettled};
 
 use crate::cell_set::CellSet;
-use crate::incoming::{Entry, Row, incoming};
+use crate::incoming::{Entry, Incoming, Row};
 use fleet_base::numbers::CellNo;
 use site_map::site::Site;
 use std::alloc::{AllocError, Global};
@@ -32,18 +32,20 @@ struct Search {
 // the goal over links taken backwards.
 pub(crate) fn least_labels(
     site: &Site,
+    incoming: &Incoming,
     goal: &CellSet,
     avoid: &CellSet,
     alloc: Global,
 ) -> Result<Vec<Option<u64>>, AllocError>
+    requires { AreIncoming (site_of site.now) incoming.now }
     ensures least { IfOk result (λ labels. (c : CellNo) → label_at labels.items c ≡ label_of (site_of site.now) (has goal.now) (has avoid.now) c) }
     ensures site { IsSite (site_of site.now) }
 {
     let count = site.cell_count();
-    let rows = incoming(site, alloc)?;
+    let rows = incoming.rows();
     let mut search = Search::from_goal(count, goal, avoid, alloc)?;
     while let Some(Reverse((label, number))) = search.queue.pop() {
-        search.visit(CellNo(number), label, &rows, avoid)?;
+        search.visit(CellNo(number), label, rows, avoid)?;
     }
     Ok(search.labels)
 }

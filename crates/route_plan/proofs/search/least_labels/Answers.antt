@@ -36,8 +36,8 @@ pub visit-requires-clause-froms : goal.visit-requires-clause-froms
 visit-requires-clause-froms c = λ b e m.
     let site = site_of c.args.site.now in
     let is_site = c.cell_count-count.ensures.site in
-    let kept : Contains (row_at c.in_ok-rows.rows.items b) e = subst (λ rows. Contains (row_at rows b) e) c.deref.ensures.value m in
-    let known = (is_site.links e.from b e.cost (c.in_ok-rows.ensures.only b e kept)).1 in
+    let kept : Contains (row_at c.args.incoming.now b) e = subst (λ rows. Contains (row_at rows b) e) c.rows-rows.ensures m in
+    let known = (is_site.links e.from b e.cost (c.requires.only b e kept)).1 in
     let long = c.loop-label.invariant.settled.long in
     omega arith
 
@@ -46,7 +46,7 @@ loop-label-preserved c =
     let site = site_of c.args.site.now in
     let h = search_reordered site (has c.args.goal.now) (has c.args.avoid.now) c.loop-label.search.labels.items (heap_items c.loop-label.search.queue) (c.in-Some.field-0 ∷ heap_items c.pop.new.self) c.in-Some.ensures.permutation c.loop-label.invariant.settled in
     record {
-      settled = c.in_ok-visit.ensures.kept site (has c.args.goal.now) c.cell_count-count.ensures.site (subst (AreIncoming site) (sym c.deref.ensures.value) c.in_ok-rows.ensures) h;
+      settled = c.in_ok-visit.ensures.kept site (has c.args.goal.now) c.cell_count-count.ensures.site (subst (AreIncoming site) (sym c.rows-rows.ensures) c.requires) h;
       low = c.in_ok-visit.ensures.low;
     }
 

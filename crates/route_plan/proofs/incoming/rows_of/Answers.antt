@@ -8,7 +8,7 @@ use Rattle.route_plan.specs.declared.incoming.Entry.{Entry}
 use Rattle.route_plan.specs.Incoming.{AreEntered}
 use Rattle.route_plan.proofs.Agreement.{cells_of}
 use Rattle.route_plan.proofs.Entering.{incoming_all, incoming_more, incoming_none, AreIncomingFrom}
-use Rattle.route_plan.proofs.incoming.incoming.Goals as goal
+use Rattle.route_plan.proofs.incoming.rows_of.Goals as goal
 
 -- a slice that was written whole is the list
 whole : {A : Type 0} (n : ℕ) (new old : List A) → n ≡ length old → length new ≡ length old → take n (new ++ drop (length new) old) ≡ new

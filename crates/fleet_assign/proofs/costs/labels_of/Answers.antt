@@ -1,0 +1,19 @@
+use Rattle.std.proofs.Common.{◌≡◌, ℕ, ◌<◌, List, Option, sym, subst, ◌∙◌}
+use Rattle.std.specs.Prelude.{IfSome}
+use Rattle.std.proofs.lemmas.Result.{IfOk-weaker}
+use Rattle.fleet_base.specs.declared.numbers.CellNo.{CellNo}
+use Rattle.site_map.specs.Claims.{site_of}
+use Rattle.route_plan.specs.Labels.{has, label_at, label_of}
+use Rattle.fleet_assign.specs.Tasks.{route_cost}
+use Rattle.fleet_assign.proofs.RouteCosts.{labels_are, route_low}
+use Rattle.fleet_assign.proofs.costs.labels_of.Goals as goal
+
+told : (c : goal.After) → (labels : List (Option ℕ)) → ((a : CellNo) → label_at labels a ≡ label_of (site_of c.args.site.now) (has c.goal_set-goals.result) (has c.new.result) a) → (a : CellNo) → label_at labels a ≡ route_cost c.args.site.now c.args.goal a
+told c labels are a = are a ∙ labels_are c.args.site.now c.args.goal c.goal_set-goals.result c.new.result c.goal_set-goals.ensures c.new.ensures a
+
+pub returns-clause-labels : goal.returns-clause-labels
+returns-clause-labels c = IfOk-weaker c.labels_to.result (told c) c.labels_to.ensures
+
+pub returns-clause-low : goal.returns-clause-low
+returns-clause-low c =
+    IfOk-weaker c.labels_to.result (λ labels are a. subst (λ o. IfSome o (λ n. n < 1000000000000)) (sym (told c labels are a)) (route_low c.args.site.now c.cell_count-count.ensures.valid c.cell_count-count.ensures.site c.args.goal a)) c.labels_to.ensures
