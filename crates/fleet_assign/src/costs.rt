@@ -35,21 +35,14 @@ pub(crate) fn costs_of(
     requires goals { All (IsGoal scenario.now.site) tasks.now }
     ensures { IfOk result (λ costs. IsSquareOf scenario.now costs) }
 {
+    let site = scenario.site();
     let starts = scenario.starts();
     let count = starts.len() as u32;
-    let incoming = Incoming::of(scenario.site(), alloc)?;
+    let incoming = Incoming::of(site, alloc)?;
     let mut costs = Costs::new(count, alloc)?;
     for column in 0..count {
         if let Some(goal) = task_at(tasks, column) {
-            fill(
-                alloc,
-                &mut costs,
-                scenario.site(),
-                &incoming,
-                starts,
-                column,
-                goal,
-            )?;
+            fill(alloc, &mut costs, site, &incoming, starts, column, goal)?;
         }
     }
     Ok(costs)

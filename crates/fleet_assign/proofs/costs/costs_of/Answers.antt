@@ -22,9 +22,9 @@ loop-column-preserved c =
           record {
             sized = ap (λ (q : Square). q.size) w.costs-is ∙ w.in_ok-fill.ensures.sized ∙ c.loop-column.invariant.sized;
             done = subst (AreDone s (column + 1)) (sym w.costs-is)
-                (done_task s column before after w.in-Some.goal w.site.result.now c.starts-starts.result.now w.site.ensures c.starts-starts.ensures.is is within fill c.loop-column.invariant.done);
+                (done_task s column before after w.in-Some.goal c.site-site.result.now c.starts-starts.result.now c.site-site.ensures c.starts-starts.ensures.is is within fill c.loop-column.invariant.done);
             left = subst (AreLeft s (column + 1)) (sym w.costs-is)
-                (left_task s column before after w.in-Some.goal w.site.result.now c.starts-starts.result.now w.site.ensures c.starts-starts.ensures.is is within fill c.loop-column.invariant.left);
+                (left_task s column before after w.in-Some.goal c.site-site.result.now c.starts-starts.result.now c.site-site.ensures c.starts-starts.ensures.is is within fill c.loop-column.invariant.left);
           }
       | in_default w ↦
           let none : task_at s column ≡ None = sym task ∙ w.in_default.is in
