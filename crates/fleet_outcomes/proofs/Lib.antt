@@ -1,0 +1,7 @@
+pub mod Acting
+pub mod Chains
+pub mod Detours
+pub mod Following
+pub mod Judging
+pub mod KeptStops
+pub mod Ways

@@ -1,0 +1,5 @@
+pub mod Known
+pub mod Own
+pub mod Through
+pub mod Passes
+pub mod Lists

@@ -1,0 +1,47 @@
+use Rattle.std.proofs.Common.{◌≡◌}
+use Rattle.std.proofs.Common.{sym, ◌∙◌}
+use Rattle.fleet_model.specs.Calls.{report}
+use Rattle.coordinator.specs.Books.{state_of}
+use Rattle.shared_fleet.specs.Turning.{DoesStep}
+use Rattle.shared_fleet.proofs.Own.{own_report}
+use Rattle.shared_fleet.proofs.Known.{known_report}
+use Rattle.shared_fleet.proofs.Through.{Did, did_step, known_here, may_finish, rests_again, same_robot, seen_now, still_own, turned}
+use Rattle.shared_fleet.proofs.shared.SharedFleet.report.Goals as goal
+
+pub finish-pass-inside-requires-clause-grown : goal.finish-pass-inside-requires-clause-grown
+finish-pass-inside-requires-clause-grown g c =
+    let did : Did c.begin-fleet.result c.report-answer.new.self c.args.pass.now.robot (DoesStep (λ told due. told ≡ due) (λ s. report s c.args.pass.now.robot c.args.event) c.report-answer.result) =
+    did_step c.begin-fleet.result c.report-answer.new.self (λ told due. told ≡ due) (λ r s. report s r c.args.event) c.report-answer.result c.robot-robot.result.0 c.args.pass.now.robot c.robot-robot.ensures (own_report (state_of c.begin-fleet.result) c.robot-robot.result.0 c.args.event) c.report-answer.ensures.answer c.report-answer.ensures.book
+    in
+    may_finish c.self.inside.lock c.self.inside.opened c.pass.inside.seat c.begin-fleet.new.seat c.args.self.now c.args.pass.now c.self.view_is c.pass.view_is c.requires c.begin-fleet.result c.begin-fleet.ensures.turn c.report-answer.new.self (DoesStep (λ told due. told ≡ due) (λ s. report s c.args.pass.now.robot c.args.event) c.report-answer.result) did
+
+pub invariant_of-pass : goal.invariant_of-pass
+invariant_of-pass g c =
+    let did : Did c.begin-fleet.result c.report-answer.new.self c.args.pass.now.robot (DoesStep (λ told due. told ≡ due) (λ s. report s c.args.pass.now.robot c.args.event) c.report-answer.result) =
+    did_step c.begin-fleet.result c.report-answer.new.self (λ told due. told ≡ due) (λ r s. report s r c.args.event) c.report-answer.result c.robot-robot.result.0 c.args.pass.now.robot c.robot-robot.ensures (own_report (state_of c.begin-fleet.result) c.robot-robot.result.0 c.args.event) c.report-answer.ensures.answer c.report-answer.ensures.book
+    in
+    (rests_again c.self.inside.lock c.self.inside.opened c.pass.inside.seat c.begin-fleet.new.seat c.args.self.now c.args.pass.now c.self.view_is c.pass.view_is c.requires c.begin-fleet.result c.begin-fleet.ensures.turn c.report-answer.new.self (DoesStep (λ told due. told ≡ due) (λ s. report s c.args.pass.now.robot c.args.event) c.report-answer.result) did c.finish-pass-inside.new.seat c.pass.invariant.0 c.begin-fleet.ensures.found c.finish-pass-inside.ensures.seat, seen_now c.self.inside.lock c.self.inside.opened c.pass.inside.seat c.begin-fleet.new.seat c.args.self.now c.args.pass.now c.self.view_is c.pass.view_is c.requires c.begin-fleet.result c.begin-fleet.ensures.turn c.report-answer.new.self (DoesStep (λ told due. told ≡ due) (λ s. report s c.args.pass.now.robot c.args.event) c.report-answer.result) did c.finish-pass-inside.new.seat c.pass.invariant.0 c.begin-fleet.ensures.found c.finish-pass-inside.ensures.seat c.finish-pass-inside.result c.finish-pass-inside.ensures.count)
+
+pub returns-clause-own : goal.returns-clause-own
+returns-clause-own g c =
+    let did : Did c.begin-fleet.result c.report-answer.new.self c.args.pass.now.robot (DoesStep (λ told due. told ≡ due) (λ s. report s c.args.pass.now.robot c.args.event) c.report-answer.result) =
+    did_step c.begin-fleet.result c.report-answer.new.self (λ told due. told ≡ due) (λ r s. report s r c.args.event) c.report-answer.result c.robot-robot.result.0 c.args.pass.now.robot c.robot-robot.ensures (own_report (state_of c.begin-fleet.result) c.robot-robot.result.0 c.args.event) c.report-answer.ensures.answer c.report-answer.ensures.book
+    in
+    still_own c.self.inside.lock c.self.inside.opened c.pass.inside.seat c.begin-fleet.new.seat c.args.self.now c.args.pass.now c.self.view_is c.pass.view_is c.requires c.begin-fleet.result c.begin-fleet.ensures.turn c.report-answer.new.self (DoesStep (λ told due. told ≡ due) (λ s. report s c.args.pass.now.robot c.args.event) c.report-answer.result) did c.finish-pass-inside.new.seat c.pass.invariant.0 c.begin-fleet.ensures.found c.finish-pass-inside.ensures.seat
+
+pub returns-clause-robot : goal.returns-clause-robot
+returns-clause-robot g c =
+    let did : Did c.begin-fleet.result c.report-answer.new.self c.args.pass.now.robot (DoesStep (λ told due. told ≡ due) (λ s. report s c.args.pass.now.robot c.args.event) c.report-answer.result) =
+    did_step c.begin-fleet.result c.report-answer.new.self (λ told due. told ≡ due) (λ r s. report s r c.args.event) c.report-answer.result c.robot-robot.result.0 c.args.pass.now.robot c.robot-robot.ensures (own_report (state_of c.begin-fleet.result) c.robot-robot.result.0 c.args.event) c.report-answer.ensures.answer c.report-answer.ensures.book
+    in
+    same_robot c.self.inside.lock c.self.inside.opened c.pass.inside.seat c.begin-fleet.new.seat c.args.self.now c.args.pass.now c.self.view_is c.pass.view_is c.requires c.begin-fleet.result c.begin-fleet.ensures.turn c.report-answer.new.self (DoesStep (λ told due. told ≡ due) (λ s. report s c.args.pass.now.robot c.args.event) c.report-answer.result) did c.finish-pass-inside.new.seat c.pass.invariant.0 c.begin-fleet.ensures.found c.finish-pass-inside.ensures.seat
+
+pub returns-clause-turn : goal.returns-clause-turn
+returns-clause-turn g c =
+    let did : Did c.begin-fleet.result c.report-answer.new.self c.args.pass.now.robot (DoesStep (λ told due. told ≡ due) (λ s. report s c.args.pass.now.robot c.args.event) c.report-answer.result) =
+    did_step c.begin-fleet.result c.report-answer.new.self (λ told due. told ≡ due) (λ r s. report s r c.args.event) c.report-answer.result c.robot-robot.result.0 c.args.pass.now.robot c.robot-robot.ensures (own_report (state_of c.begin-fleet.result) c.robot-robot.result.0 c.args.event) c.report-answer.ensures.answer c.report-answer.ensures.book
+    in
+    turned c.self.inside.lock c.self.inside.opened c.pass.inside.seat c.begin-fleet.new.seat c.args.self.now c.args.pass.now c.self.view_is c.pass.view_is c.requires c.begin-fleet.result c.begin-fleet.ensures.turn c.report-answer.new.self (DoesStep (λ told due. told ≡ due) (λ s. report s c.args.pass.now.robot c.args.event) c.report-answer.result) did c.finish-pass-inside.new.seat c.pass.invariant.0 c.begin-fleet.ensures.found c.finish-pass-inside.ensures.seat
+
+pub returns-clause-known : goal.returns-clause-known
+returns-clause-known g c = λ h. known_report (state_of c.begin-fleet.result) c.robot-robot.result.0 c.args.event (known_here c.pass.inside.seat c.args.pass.now c.begin-fleet.result c.robot-robot.result.0 c.pass.view_is c.robot-robot.ensures c.begin-fleet.ensures.found.known) (sym c.report-answer.ensures.answer ∙ h)
